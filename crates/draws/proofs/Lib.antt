@@ -1,0 +1,5 @@
+pub mod RunLaws
+pub mod DrawnLaws
+pub mod PlanLaws
+pub mod MarksLaws
+pub mod AnewLaws

@@ -1,0 +1,68 @@
+-- To set draws anew: to change the low L bits of the words that gave them and nothing more (document 01, "The tape").
+use mathlib.Core.Path.{_≡_}
+use mathlib.Core.Bool.{Bool, true, false}
+use mathlib.Core.List.{List, [], _∷_}
+use Prim.Native.Nat.{ℕ, _+_, _*_, _/_, _^_, _≤_, _<_}
+use lib.ListN.{length, getD, set, replicate}
+use Rattle.numbers.specs.Bits.{bitsOf}
+use Rattle.tape.specs.declared.Cursor.{Cursor}
+use Rattle.tape.specs.Tape.{lowBits}
+use Rattle.draws.specs.Plan.{places}
+
+-- the bits of a word above its low L bits
+unfoldable pub highBits : ℕ → ℕ → ℕ
+highBits M w = w / 2 ^ bitsOf M
+
+-- a word with r for its low L bits
+unfoldable pub withLow : ℕ → ℕ → ℕ → ℕ
+withLow M w r = highBits M w * 2 ^ bitsOf M + r
+
+-- the numbers rs for the low bits of the words at the places ws, in turn
+unfoldable pub setAt : ℕ → List ℕ → List ℕ → List ℕ → List ℕ
+setAt M tape [] rs = tape
+setAt M tape (w ∷ ws) [] = tape
+setAt M tape (w ∷ ws) (r ∷ rs) = setAt M (set tape w (withLow M (getD tape w 0) r)) ws rs
+
+-- those of a list that are marked
+unfoldable pub marked : List Bool → List ℕ → List ℕ
+marked [] xs = []
+marked (b ∷ bs) [] = []
+marked (true ∷ bs) (x ∷ xs) = x ∷ marked bs xs
+marked (false ∷ bs) (x ∷ xs) = marked bs xs
+
+-- a list with the numbers us in place of those that are marked
+unfoldable pub merged : List Bool → List ℕ → List ℕ → List ℕ
+merged [] xs us = xs
+merged (b ∷ bs) [] us = []
+merged (true ∷ bs) (x ∷ xs) [] = x ∷ xs
+merged (true ∷ bs) (x ∷ xs) (u ∷ us) = u ∷ merged bs xs us
+merged (false ∷ bs) (x ∷ xs) us = x ∷ merged bs xs us
+
+-- of the draws ms, the marked ones are k draws below M
+abbrev pub Marks : List Bool → List ℕ → ℕ → ℕ → Type 0
+Marks bs ms k M = marked bs ms ≡ replicate k M
+
+-- none of the draws ms, and then the marks bs
+unfoldable pub marksAfter : List ℕ → List Bool → List Bool
+marksAfter [] bs = bs
+marksAfter (m ∷ ms) bs = false ∷ marksAfter ms bs
+
+-- the tape with the marked ones of the draws ms, which are draws below M, set anew to us
+unfoldable pub anew : List Bool → ℕ → List ℕ → List ℕ → Cursor → List ℕ → List ℕ
+anew bs M ms tape c us = setAt M tape (marked bs (places ms tape c)) us
+
+-- i is one of the places ws
+abbrev pub Among : ℕ → List ℕ → Type 0
+Among i ws = (a : ℕ) × (a < length ws) × (getD ws a 0 ≡ i)
+
+-- two tapes of one length have the same words from the place a up to the place b, b left out
+pub record Same (s t : List ℕ) (a b : ℕ) : Type 0 where
+  pub size : length s ≡ length t
+  pub words : (i : ℕ) → a ≤ i → i < b → getD s i 0 ≡ getD t i 0
+
+-- t is the tape with the draws that the words at ws gave set anew to rs: the low L bits of those words, and nothing more
+pub record SetAnew (M : ℕ) (tape ws rs t : List ℕ) : Type 0 where
+  pub size : length t ≡ length tape
+  pub others : (i : ℕ) → ¬ (Among i ws) → getD t i 0 ≡ getD tape i 0
+  pub high : (i : ℕ) → highBits M (getD t i 0) ≡ highBits M (getD tape i 0)
+  pub low : (a : ℕ) → a < length ws → lowBits M (getD t (getD ws a 0) 0) ≡ getD rs a 0

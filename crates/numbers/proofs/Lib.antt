@@ -1,0 +1,6 @@
+pub mod Cong
+pub mod XorLaws
+pub mod GroupLaws
+pub mod WordsLaws
+pub mod FoldLaws
+pub mod BitsLaws

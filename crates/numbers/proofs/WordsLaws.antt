@@ -1,0 +1,64 @@
+-- Laws of lists of words below M.
+use mathlib.Core.Path.{_≡_, sym, ap, subst, _∙_}
+use mathlib.Core.List.{List, _∷_}
+use Prim.Native.Nat.{ℕ, suc, _≤_, _<_, suc-le-suc}
+use native.Mathlib.Omega.{arith}
+use native.Mathlib.Decide.{decLt, ℕ-discrete}
+use lib.ListN.{length, getD, set, take, replicate, length-set, length-replicate, getD-replicate, List·getD-eq-default}
+use lib.Seq.{getD-set-same, getD-set-other, length-take-le, getD-take, take-set-lt}
+use Rattle.numbers.specs.Lists.{Words, change}
+
+pub words-head : {k M x : ℕ} {xs : List ℕ} → Words (suc k) M (x ∷ xs) → x < M
+words-head w = w .below 0 (omega arith)
+
+pub words-tail : {k M x : ℕ} {xs : List ℕ} → Words (suc k) M (x ∷ xs) → Words k M xs
+words-tail {k} {xs = xs} w = let e : suc (length xs) ≡ suc k = w .size in record { size = omega arith; below = λ i h. w .below (suc i) (suc-le-suc h) }
+
+-- past its end a list reads 0
+pub words-at : {n M : ℕ} {xs : List ℕ} → 0 < M → Words n M xs → (i : ℕ) → getD xs i 0 < M
+words-at {n} {M} {xs} h w i = go (decLt i n)
+  where
+    go : Dec (i < n) → getD xs i 0 < M
+    go (yes l) = w .below i l
+    go (no l) = let e : getD xs i 0 ≡ 0 = List·getD-eq-default xs 0 (omega (arith, w .size)) in omega arith
+
+pub words-set : {n M : ℕ} {xs : List ℕ} → Words n M xs → (i : ℕ) {v : ℕ} → v < M → Words n M (set xs i v)
+words-set {n} {M} {xs} w i {v} h = record { size = length-set xs i v ∙ w .size; below = λ j l. go j l (ℕ-discrete j i) }
+  where
+    go : (j : ℕ) → j < n → Dec (j ≡ i) → getD (set xs i v) j 0 < M
+    go j l (yes e) = let x : getD (set xs i v) i 0 ≡ v = getD-set-same xs i v 0 (omega (arith, w .size)) in rw (e, x) h
+    go j l (no e) = rw (getD-set-other xs i j v 0 e) (w .below j l)
+
+pub words-take : {m M : ℕ} {xs : List ℕ} (n : ℕ) → n ≤ m → Words m M xs → Words n M (take n xs)
+words-take {xs = xs} n h w =
+    record { size = length-take-le n xs (omega (arith, w .size)); below = λ i l. rw (getD-take n xs i 0 l) (w .below i (omega arith)) }
+
+pub words-same : {n M v : ℕ} → v < M → Words n M (replicate n v)
+words-same {n} {v = v} h = record { size = length-replicate n v; below = λ i l. rw (getD-replicate n i v 0 l) h }
+
+-- ---- one word changed
+pub length-change : (f : ℕ → ℕ) (i : ℕ) (xs : List ℕ) → length (change f i xs) ≡ length xs
+unfolding change
+length-change f i xs = length-set xs i (f (getD xs i 0))
+
+pub change-here : (f : ℕ → ℕ) (i : ℕ) (xs : List ℕ) → i < length xs → getD (change f i xs) i 0 ≡ f (getD xs i 0)
+unfolding change
+change-here f i xs h = getD-set-same xs i (f (getD xs i 0)) 0 h
+
+pub change-other : (f : ℕ → ℕ) (i : ℕ) (xs : List ℕ) (j : ℕ) → ¬ (j ≡ i) → getD (change f i xs) j 0 ≡ getD xs j 0
+unfolding change
+change-other f i xs j n = getD-set-other xs i j (f (getD xs i 0)) 0 n
+
+-- the first n of the words, one of them changed
+pub take-change : (f : ℕ → ℕ) (n i : ℕ) (xs : List ℕ) → i < n → take n (change f i xs) ≡ change f i (take n xs)
+unfolding change
+take-change f n i xs h = take-set-lt n xs i (f (getD xs i 0)) h ∙ ap (λ (x : ℕ). set (take n xs) i (f x)) (sym (getD-take n xs i 0 h))
+
+-- a word stored is one changed
+pub set-change : (f : ℕ → ℕ) (i : ℕ) (xs : List ℕ) (v : ℕ) → v ≡ f (getD xs i 0) → set xs i v ≡ change f i xs
+unfolding change
+set-change f i xs v e = ap (set xs i) e
+
+pub words-change : {n M : ℕ} {xs : List ℕ} (f : ℕ → ℕ) (i : ℕ) → Words n M xs → f (getD xs i 0) < M → Words n M (change f i xs)
+unfolding change
+words-change f i w h = words-set w i h

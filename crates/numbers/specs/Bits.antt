@@ -1,0 +1,23 @@
+-- The two numbers of bits that document 01 names: L, of a draw ("The tape"), and α ("What the library covers").
+use Prim.Native.Nat.{ℕ, zero, suc, _-_, _^_}
+use mathlib.Core.Bool.{Bool, true, false}
+use lib.Dec.{leb}
+use lib.Count.{leadingZeros}
+
+-- one of two, by a test
+abbrev pub pick : {A : Type 0} → Bool → A → A → A
+pick true a b = a
+pick false a b = b
+
+-- L, the bits of a draw below M: 32 less the leading zeros of M - 1
+unfoldable pub bitsOf : ℕ → ℕ
+bitsOf M = 32 - leadingZeros 32 (M - 1)
+
+-- the first a, from a on and trying k of them, whose power of two is n or more
+unfoldable pub powerFrom : ℕ → ℕ → ℕ → ℕ
+powerFrom n a zero = a
+powerFrom n a (suc k) = pick (leb n (2 ^ a)) a (powerFrom n (suc a) k)
+
+-- α, the smallest number with 2^α ≥ n
+unfoldable pub alpha : ℕ → ℕ
+alpha n = powerFrom n 0 n

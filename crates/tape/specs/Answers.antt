@@ -1,0 +1,9 @@
+-- What the answer of a draw stands for.
+use Prim.Native.Nat.{ℕ}
+use Rattle.tape.specs.declared.Draw.{Draw}
+use Rattle.tape.specs.declared.Draw.the-variants.{Got, Ended}
+use Rattle.tape.specs.Tape.{Ran, ended, ran}
+
+unfoldable pub drawn : Draw → Ran ℕ
+drawn (Got r c) = ran r c
+drawn Ended = ended

@@ -1,0 +1,52 @@
+// The tape of random words: its place, and one draw.
+use words::bits;
+use words::power;
+ghost use mathlib.Core.Path.{_≡_};
+ghost use Prim.Native.Nat.{_%_, _≤_};
+ghost use Rattle.tape.specs.Tape.{start, drawAt};
+ghost use Rattle.tape.specs.Answers.{drawn};
+
+// The place on the tape that each draw hands on to the next: the number of words read so far.
+pub struct Cursor {
+    pub at: usize,
+}
+
+// A draw answers a number, with the moved place, or that the tape has ended.
+pub enum Draw {
+    Got(u32, Cursor),
+    Ended,
+}
+
+// The low bits of a word: its remainder by a power of two.
+fn low(w: u32, span: u64) -> u32
+    requires { ⌜ 1 ≤ span ⌝ }
+    ensures { λ r. ⌜ r ≡ w % span ⌝ }
+{
+    (w as u64 % span) as u32
+}
+
+impl Cursor {
+    // Each call reads the tape from place 0.
+    pub fn start() -> Self
+        ensures { λ r. ⌜ r ≡ start ⌝ }
+    {
+        Cursor { at: 0 }
+    }
+
+    // A draw below m: words whose low bits are not below m are skipped.
+    pub fn draw(self, tape: &[u32], m: u32) -> Draw
+        requires { ⌜ 2 ≤ m ⌝ }
+        ensures { λ r. ⌜ drawn r ≡ drawAt (now (tape .entry)) self m ⌝ }
+    {
+        let span = power(bits(m));
+        let mut at = self.at;
+        while at < tape.len() {
+            let r = low(tape[at], span);
+            at += 1;
+            if r < m {
+                return Draw::Got(r, Cursor { at });
+            }
+        }
+        Draw::Ended
+    }
+}

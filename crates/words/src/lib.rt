@@ -1,0 +1,61 @@
+// Words below a modulus: sum, difference, negation, the reduction modulo q, and numbers of bits.
+// Nothing here divides by a variable: some processors take longer for some operands.
+ghost use mathlib.Core.Path.{_≡_};
+ghost use Prim.Native.Nat.{_%_, _^_, _≤_, _<_};
+ghost use Rattle.numbers.specs.Modulo.{q, addMod, subMod, negMod};
+ghost use Rattle.numbers.specs.Bits.{bitsOf, alpha};
+
+pub const Q: u64 = 8380417;
+
+// `m - b` is formed first, so that the sum of two words fits for every modulus of 32 bits.
+pub fn add_mod(a: u32, b: u32, m: u32) -> u32
+    requires { ⌜ (a < m) × (b < m) ⌝ }
+    ensures { λ r. ⌜ r ≡ addMod m a b ⌝ }
+{
+    let left = m - b;
+    if a < left { a + b } else { a - left }
+}
+
+pub fn sub_mod(a: u32, b: u32, m: u32) -> u32
+    requires { ⌜ (a < m) × (b < m) ⌝ }
+    ensures { λ r. ⌜ r ≡ subMod m a b ⌝ }
+{
+    if b <= a { a - b } else { a + (m - b) }
+}
+
+pub fn neg_mod(a: u32, m: u32) -> u32
+    requires { ⌜ a < m ⌝ }
+    ensures { λ r. ⌜ r ≡ negMod m a ⌝ }
+{
+    if a == 0 { 0 } else { m - a }
+}
+
+// The one reduction modulo q. The divisor is a constant, so it compiles to a multiplication.
+pub fn reduce_q(x: u64) -> u32
+    ensures { λ r. ⌜ r ≡ x % q ⌝ }
+{
+    (x % Q) as u32
+}
+
+// L: how many bits a draw below m has.
+pub fn bits(m: u32) -> u32
+    requires { ⌜ 2 ≤ m ⌝ }
+    ensures { λ r. ⌜ r ≡ bitsOf m ⌝ }
+{
+    32 - u32::leading_zeros(m - 1)
+}
+
+// α of n shares.
+pub fn alpha(n: u32) -> u32
+    requires { ⌜ 2 ≤ n ⌝ }
+    ensures { λ r. ⌜ r ≡ alpha n ⌝ }
+{
+    bits(n)
+}
+
+pub fn power(k: u32) -> u64
+    requires { ⌜ k ≤ 32 ⌝ }
+    ensures { λ r. ⌜ r ≡ 2 ^ k ⌝ }
+{
+    1u64 << k
+}
