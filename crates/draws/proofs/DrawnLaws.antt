@@ -14,7 +14,10 @@ use borrow.Author.Tests.{lt-ltb, le-ltb, ltb-true, ltb-false}
 use Rattle.numbers.specs.Bits.{bitsOf, pick}
 use Rattle.tape.specs.declared.Cursor.{Cursor}
 use Rattle.tape.specs.Tape.{ended, ran, taken, passed, lowBits, drawAt}
-use Rattle.tape.proofs.DrawLaws.{draw-end, draw-more, draw-hit, draw-skip}
+use Rattle.tape.specs.declared.Draw.{Draw}
+use Rattle.tape.specs.declared.Draw.the-variants.{Got}
+use Rattle.tape.specs.Answers as Answers
+use Rattle.tape.proofs.DrawLaws.{draw-end, draw-more, draw-hit, draw-skip, got}
 use Rattle.draws.specs.Plan.{skipFrom}
 use Rattle.draws.specs.Anew.{highBits, withLow, Same}
 
@@ -66,6 +69,11 @@ pub drawn-moves : {M : ℕ} {tape : List ℕ} {c : Cursor} {r : ℕ} {q : Cursor
 drawn-moves (hit h e l) = (omega arith, omega arith)
 drawn-moves (skip h l d) = let (a, b) = drawn-moves d in (omega arith, b)
 
+-- the word before the place that it hands on gave it
+pub drawn-gave : {M : ℕ} {tape : List ℕ} {c : Cursor} {r : ℕ} {q : Cursor} → Drawn M tape c r q → lowBits M (getD tape (q .at - 1) 0) ≡ r
+drawn-gave {M} {tape} (hit {c = c} h e l) = let w : c .at + 1 - 1 ≡ c .at = omega arith in rw w e
+drawn-gave (skip h l d) = drawn-gave d
+
 -- it takes one word more than it skips
 pub drawn-skips : {M : ℕ} {tape : List ℕ} {c : Cursor} {r : ℕ} {q : Cursor} → Drawn M tape c r q → q .at ≡ c .at + 1 + skipFrom M (drop (c .at) tape)
 unfolding skipFrom
@@ -114,3 +122,7 @@ drawn-anew {M} {tape} (skip {c = c} {q = q} h l d) u hu hb =
     let o = drawn-moves d in
     let z : getD (set tape (q .at - 1) x) (c .at) 0 ≡ getD tape (c .at) 0 = getD-set-other tape (q .at - 1) (c .at) x 0 (omega arith) in
     skip {c = c} (omega (arith, length-set tape (q .at - 1) x)) (rw z l) (drawn-anew d u hu hb)
+
+-- what a call of draw gave is below its modulus
+pub got-below : (d : Draw) {r : ℕ} {c : Cursor} (tape : List ℕ) (p : Cursor) (M : ℕ) → Answers.drawn d ≡ drawAt tape p M → d ≡ Got r c → r < M
+got-below d tape p M e f = drawn-below (drawn (got d e f))

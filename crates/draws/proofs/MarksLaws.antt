@@ -1,12 +1,13 @@
 -- Laws of marked draws: all of them, and those of a plan that comes after another.
 use mathlib.Core.Path.{_≡_, refl, ap}
-use mathlib.Core.Bool.{Bool, true}
+use mathlib.Core.Bool.{Bool, true, false}
 use mathlib.Core.List.{List, [], _∷_, _++_}
-use Prim.Native.Nat.{ℕ, zero, suc}
+use Prim.Native.Nat.{ℕ, zero, suc, _<_, suc-le-suc}
+use native.Mathlib.Nat.{le-of-suc-le-suc}
 use native.Mathlib.Omega.{arith}
 use lib.ListN.{length, replicate}
 use Rattle.draws.specs.Plan.{Fits, none-left, one-more}
-use Rattle.draws.specs.Anew.{marked, merged, Marks, marksAfter}
+use Rattle.draws.specs.Anew.{marked, merged, Marks, marksAfter, Among}
 
 pub all-marked : (k M : ℕ) → Marks (replicate k true) (replicate k M) k M
 unfolding marked
@@ -31,3 +32,32 @@ pub merged-after : {ms r : List ℕ} (bs : List Bool) (rs us : List ℕ) → Fit
 unfolding merged marksAfter
 merged-after bs rs us none-left = refl
 merged-after bs rs us (one-more {r = r} l f) = ap (r ∷_) (merged-after bs rs us f)
+
+-- a marked one of a list is one of the list
+pub among-marked : (bs : List Bool) (ws : List ℕ) (i : ℕ) → Among i (marked bs ws) → Among i ws
+unfolding marked
+among-marked [] ws i (a, l, e) = absurd (omega arith)
+among-marked (b ∷ bs) [] i (a, l, e) = absurd (omega arith)
+among-marked (true ∷ bs) (w ∷ ws) i (zero, l, e) = let h : 0 < suc (length ws) = omega arith in (0, h, e)
+among-marked (true ∷ bs) (w ∷ ws) i (suc a, l, e) = let c = among-marked bs ws i (a, le-of-suc-le-suc l, e) in (suc (c .0), suc-le-suc (c .1), c .2)
+among-marked (false ∷ bs) (w ∷ ws) i h = let c = among-marked bs ws i h in (suc (c .0), suc-le-suc (c .1), c .2)
+
+pub marked-length : (bs : List Bool) (xs ys : List ℕ) → length xs ≡ length ys → length (marked bs xs) ≡ length (marked bs ys)
+unfolding marked
+marked-length [] xs ys e = refl
+marked-length (b ∷ bs) [] [] e = refl
+marked-length (b ∷ bs) [] (y ∷ ys) e = absurd (omega arith)
+marked-length (b ∷ bs) (x ∷ xs) [] e = absurd (omega arith)
+marked-length (true ∷ bs) (x ∷ xs) (y ∷ ys) e = ap suc (marked-length bs xs ys (omega arith))
+marked-length (false ∷ bs) (x ∷ xs) (y ∷ ys) e = marked-length bs xs ys (omega arith)
+
+-- what was put in place of the marked ones is then marked
+pub marked-merged : (bs : List Bool) (xs us : List ℕ) → length (marked bs xs) ≡ length us → marked bs (merged bs xs us) ≡ us
+unfolding marked merged
+marked-merged [] xs [] e = refl
+marked-merged [] xs (u ∷ us) e = absurd (omega arith)
+marked-merged (b ∷ bs) [] [] e = refl
+marked-merged (b ∷ bs) [] (u ∷ us) e = absurd (omega arith)
+marked-merged (true ∷ bs) (x ∷ xs) [] e = absurd (omega arith)
+marked-merged (true ∷ bs) (x ∷ xs) (u ∷ us) e = ap (u ∷_) (marked-merged bs xs us (omega arith))
+marked-merged (false ∷ bs) (x ∷ xs) us e = marked-merged bs xs us e

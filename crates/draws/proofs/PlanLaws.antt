@@ -1,7 +1,7 @@
 -- Laws of outcomes and of plans, proved once for every program.
-use mathlib.Core.Path.{_≡_, refl, sym, ap, subst₂, _∙_}
+use mathlib.Core.Path.{_≡_, refl, sym, ap, subst, subst₂, _∙_}
 use mathlib.Core.List.{List, [], _∷_, _++_}
-use Prim.Native.Nat.{ℕ, zero, suc, _+_, _≤_, _<_}
+use Prim.Native.Nat.{ℕ, zero, suc, _+_, _-_, _≤_, _<_}
 use native.Mathlib.Omega.{arith}
 use lib.ListN.{length, drop, replicate}
 use Rattle.numbers.specs.Lists.{Words}
@@ -9,7 +9,7 @@ use Rattle.numbers.proofs.WordsLaws.{words-head, words-tail}
 use Rattle.tape.specs.declared.Cursor.{Cursor}
 use Rattle.tape.specs.Tape.{Ran, ended, ran, drawAt}
 use Rattle.draws.specs.Draws.{Draws, done, draw, after, next, run, bind}
-use Rattle.draws.specs.Plan.{Always, holds, whatever, Plan, stops, draws, Gives, drawAll, feed, Fits, none-left, one-more, skipFrom, skipped}
+use Rattle.draws.specs.Plan.{Always, holds, whatever, Plan, stops, draws, Gives, drawAll, feed, Fits, none-left, one-more, skipFrom, skipped, places}
 use Rattle.draws.specs.Anew.{Same}
 use Rattle.draws.proofs.RunLaws.{run-bind, run-draw, bind-ran, next-ran, draw-parts, bind-parts}
 use Rattle.draws.proofs.DrawnLaws.{Drawn, drawn, drawn-below, drawn-moves, drawn-skips, drawn-runs, drawn-reads, same-within}
@@ -58,6 +58,9 @@ pub always-as : {A : Type 0} {P Q : A → Type 0} {d : Draws A} → ((a : A) →
 always-as g (holds {a = a} h) = holds (g a h)
 always-as g (whatever h) = whatever (λ r l. always-as g (h r l))
 
+pub gives-as : {A : Type 0} {P Q : A → Type 0} {d : Draws A} {ms : List ℕ} → ((a : A) → P a → Q a) → Gives P d ms → Gives Q d ms
+gives-as g h = record { plan = h .plan; always = always-as g (h .always) }
+
 -- two things that always hold, both hold
 pub always-both : {A : Type 0} {P Q R : A → Type 0} {d : Draws A} → ((a : A) → P a → Q a → R a) → Always P d → Always Q d → Always R d
 always-both g (holds {a = a} h) (holds k) = holds (g a h k)
@@ -77,34 +80,45 @@ always-run (whatever {M = M} {k = k} h) tape p e =
 
 -- ---- reading a plan
 
--- the draws of a plan, one by one: from p the draws below ms give rs and hand on q
-pub data Reads (tape : List ℕ) : List ℕ → Cursor → List ℕ → Cursor → Type 0 where
-  none : {p : Cursor} → Reads tape [] p [] p
-  one : {M : ℕ} {ms : List ℕ} {p : Cursor} {r : ℕ} {s : Cursor} {rs : List ℕ} {q : Cursor} →
-      Drawn M tape p r s → Reads tape ms s rs q → Reads tape (M ∷ ms) p (r ∷ rs) q
+-- the draws of a plan, one by one: from p the draws below ms give rs, the words at the places ws gave them, and q is handed on
+pub data Reads (tape : List ℕ) : List ℕ → Cursor → List ℕ → List ℕ → Cursor → Type 0 where
+  none : {p : Cursor} → Reads tape [] p [] [] p
+  one : {M : ℕ} {ms : List ℕ} {p : Cursor} {r : ℕ} {s : Cursor} {rs ws : List ℕ} {q : Cursor} →
+      Drawn M tape p r s → Reads tape ms s rs ws q → Reads tape (M ∷ ms) p (r ∷ rs) ((s .at - 1) ∷ ws) q
 
-pub reads-run : {tape ms : List ℕ} {p : Cursor} {rs : List ℕ} {q : Cursor} → Reads tape ms p rs q → run (drawAll ms) tape p ≡ ran rs q
+pub reads-run : {tape ms : List ℕ} {p : Cursor} {rs ws : List ℕ} {q : Cursor} → Reads tape ms p rs ws q → run (drawAll ms) tape p ≡ ran rs q
 unfolding drawAll run
 reads-run none = refl
 reads-run {tape} (one {M = M} {ms = ms} {p = p} {r = r} {s = s} {rs = rs} {q = q} x y) =
     run-draw M (λ r. bind (drawAll ms) (λ rs. done (r ∷ rs))) tape p r s (drawn-runs x)
     ∙ bind-ran (drawAll ms) (λ rs. done (r ∷ rs)) tape s rs q (reads-run y)
 
-pub reads : (ms : List ℕ) {tape : List ℕ} {p : Cursor} {rs : List ℕ} {q : Cursor} → run (drawAll ms) tape p ≡ ran rs q → Reads tape ms p rs q
-unfolding drawAll run
+places-one : (M : ℕ) (ms : List ℕ) {tape : List ℕ} {p : Cursor} {r : ℕ} {s : Cursor} → Drawn M tape p r s → places (M ∷ ms) tape p ≡ (s .at - 1) ∷ places ms tape s
+unfolding places after
+places-one M ms {tape} a = ap (λ (y : Ran ℕ). after y [] (λ r q. (q .at - 1) ∷ places ms tape q)) (drawn-runs a)
+
+pub reads-places : {tape ms : List ℕ} {p : Cursor} {rs ws : List ℕ} {q : Cursor} → Reads tape ms p rs ws q → places ms tape p ≡ ws
+unfolding places
+reads-places none = refl
+reads-places (one {M = M} {ms = ms} {s = s} a x) = places-one M ms a ∙ ap ((s .at - 1) ∷_) (reads-places x)
+
+pub reads : (ms : List ℕ) {tape : List ℕ} {p : Cursor} {rs : List ℕ} {q : Cursor} → run (drawAll ms) tape p ≡ ran rs q → Reads tape ms p rs (places ms tape p) q
+unfolding drawAll run places
 reads [] {tape} {p} {rs} {q} e =
     let a : [] ≡ rs = cc in
     let b : p ≡ q = cc in
-    subst₂ (λ (l : List ℕ) (c : Cursor). Reads tape [] p l c) a b none
+    subst₂ (λ (l : List ℕ) (c : Cursor). Reads tape [] p l [] c) a b none
 reads (M ∷ ms) {tape} {p} {rs} {q} e =
     let (r, s, x, y) = draw-parts M (λ r. bind (drawAll ms) (λ rs. done (r ∷ rs))) tape p e in
     let (os, t, z, w) = bind-parts (drawAll ms) (λ rs. done (r ∷ rs)) tape s y in
     let a : r ∷ os ≡ rs = cc in
     let b : t ≡ q = cc in
-    subst₂ (λ (l : List ℕ) (c : Cursor). Reads tape (M ∷ ms) p l c) a b (one (drawn x) (reads ms z))
+    let f : (s .at - 1) ∷ places ms tape s ≡ places (M ∷ ms) tape p = sym (places-one M ms (drawn x)) in
+    subst (λ (ws : List ℕ). Reads tape (M ∷ ms) p rs ws q) f
+    (subst₂ (λ (l : List ℕ) (c : Cursor). Reads tape (M ∷ ms) p l ((s .at - 1) ∷ places ms tape s) c) a b (one (drawn x) (reads ms z)))
 
 -- the draws are as many as the plan says, each below its modulus
-pub reads-fit : {tape ms : List ℕ} {p : Cursor} {rs : List ℕ} {q : Cursor} → Reads tape ms p rs q → Fits ms rs
+pub reads-fit : {tape ms : List ℕ} {p : Cursor} {rs ws : List ℕ} {q : Cursor} → Reads tape ms p rs ws q → Fits ms rs
 reads-fit none = none-left
 reads-fit (one a x) = one-more (drawn-below a) (reads-fit x)
 
@@ -164,7 +178,7 @@ module _ {A : Type 0} {d : Draws A} {ms : List ℕ} (g : Plan d ms) (tape : List
   planned-ended e = planned g tape p ∙ rw e
 
   -- and back
-  pub planned-parts : {a : A} {q : Cursor} → run d tape p ≡ ran a q → (rs : List ℕ) × (Reads tape ms p rs q) × (feed d rs ≡ a)
+  pub planned-parts : {a : A} {q : Cursor} → run d tape p ≡ ran a q → (rs : List ℕ) × (Reads tape ms p rs (places ms tape p) q) × (feed d rs ≡ a)
   planned-parts {a} {q} e =
       let (rs, s, x, y) = next-ran (run (drawAll ms) tape p) (λ rs q. ran (feed d rs) q) (sym (planned g tape p) ∙ e) in
       let b : s ≡ q = cc in
@@ -203,7 +217,7 @@ both-end {e = e} {ms = ms} g h tape p x = go (run (drawAll ms) tape p) refl
     go (ran rs q) i = let j = planned-ran g tape p i in let z : _≡_ {A = ℕ} 0 1 = cc in absurd (omega arith)
 
 -- words used = draws + skipped
-pub reads-words : {tape ms : List ℕ} {p : Cursor} {rs : List ℕ} {q : Cursor} → Reads tape ms p rs q → q .at ≡ p .at + length ms + skipped ms tape p
+pub reads-words : {tape ms : List ℕ} {p : Cursor} {rs ws : List ℕ} {q : Cursor} → Reads tape ms p rs ws q → q .at ≡ p .at + length ms + skipped ms tape p
 unfolding skipped after
 reads-words none = omega arith
 reads-words {tape} (one {M = M} {ms = ms} {p = p} {r = r} {s = s} a x) =
@@ -213,7 +227,7 @@ reads-words {tape} (one {M = M} {ms = ms} {p = p} {r = r} {s = s} a x) =
     omega (arith, ih, f)
 
 -- so two readings of one plan from one place to one place skip as many words
-pub one-skipped : {s t ms : List ℕ} {p : Cursor} {rs os : List ℕ} {q : Cursor} → Reads s ms p rs q → Reads t ms p os q → skipped ms s p ≡ skipped ms t p
+pub one-skipped : {s t ms : List ℕ} {p : Cursor} {rs os vs ws : List ℕ} {q : Cursor} → Reads s ms p rs vs q → Reads t ms p os ws q → skipped ms s p ≡ skipped ms t p
 one-skipped x y = omega (arith, reads-words x, reads-words y)
 
 pub words-used : {A : Type 0} {d : Draws A} {ms : List ℕ} → Plan d ms → (tape : List ℕ) (p : Cursor) {a : A} {q : Cursor} →

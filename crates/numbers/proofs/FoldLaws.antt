@@ -1,14 +1,15 @@
 -- Laws of words put together: sums modulo M and exclusive or alike, over any group of words below M.
-use mathlib.Core.Path.{_≡_, refl, sym, ap, _∙_}
+use mathlib.Core.Path.{_≡_, refl, sym, ap, ap₂, _∙_}
 use mathlib.Core.List.{List, [], _∷_}
 use Prim.Native.Nat.{ℕ, zero, suc, _+_, _%_, _<_}
 use native.Mathlib.Nat.{le-of-suc-le-suc, add-mod-mod, mod-eq-of-lt}
 use native.Mathlib.Omega.{arith}
-use lib.ListN.{length, getD, set}
+use lib.ListN.{length, getD, set, length-set}
+use lib.Seq.{getD-set-same, set-set}
 use Rattle.numbers.specs.Modulo.{addMod}
 use Rattle.numbers.specs.Lists.{Words, fold, sum, change}
 use Rattle.numbers.proofs.GroupLaws.{Group, add-swap, add-cancel}
-use Rattle.numbers.proofs.WordsLaws.{words-head, words-tail, words-at, words-change}
+use Rattle.numbers.proofs.WordsLaws.{words-head, words-tail, words-at, words-set, words-change}
 
 -- put together modulo M at every step, or at the end
 pub fold-sum : (M : ℕ) → 0 < M → (xs : List ℕ) → fold (addMod M) xs ≡ sum xs % M
@@ -62,3 +63,12 @@ module _ {M : ℕ} {add sub : ℕ → ℕ → ℕ} (G : Group M add sub) where
         let ht : t < M = fold-below (set xs i (sub x r)) (words-change (λ y. sub y r) i w (sub-below x r hx hr)) in
         add-cancel G (add t r) s x (add-below t r ht hr) (fold-below xs w) hx
         (add-swap G t r x ∙ ap (λ (y : ℕ). add y r) (fold-set xs i (sub x r) h) ∙ assoc s (sub x r) r ∙ ap (add s) (sub-add x r hx hr))
+
+  -- one word put in where there was 0
+  pub fold-at : {n : ℕ} (i x : ℕ) (xs : List ℕ) → x < M → Words n M xs → i < length xs → fold add (set xs i x) ≡ add (fold add (set xs i 0)) x
+  fold-at i x xs h w l =
+      let ys : List ℕ = set xs i 0 in
+      let s : ℕ = fold add (set xs i x) in
+      sym (G .zero s (fold-below (set xs i x) (words-set w i h)))
+      ∙ ap₂ (λ (a : List ℕ) (b : ℕ). add (fold add a) b) (sym (set-set xs i 0 x)) (sym (getD-set-same xs i 0 0 l))
+      ∙ fold-set ys i x (omega (arith, length-set xs i 0))

@@ -1,7 +1,8 @@
 -- Laws of lists of words below M.
-use mathlib.Core.Path.{_≡_, sym, ap, subst, _∙_}
-use mathlib.Core.List.{List, _∷_}
-use Prim.Native.Nat.{ℕ, suc, _≤_, _<_, suc-le-suc}
+use mathlib.Core.Path.{_≡_, refl, sym, ap, _∙_}
+use mathlib.Core.List.{List, [], _∷_}
+use Prim.Native.Nat.{ℕ, zero, suc, _≤_, _<_, suc-le-suc}
+use native.Mathlib.Nat.{le-of-suc-le-suc}
 use native.Mathlib.Omega.{arith}
 use native.Mathlib.Decide.{decLt, ℕ-discrete}
 use lib.ListN.{length, getD, set, take, replicate, length-set, length-replicate, getD-replicate, List·getD-eq-default}
@@ -35,6 +36,25 @@ words-take {xs = xs} n h w =
 
 pub words-same : {n M v : ℕ} → v < M → Words n M (replicate n v)
 words-same {n} {v = v} h = record { size = length-replicate n v; below = λ i l. rw (getD-replicate n i v 0 l) h }
+
+-- the list f 0, f 1, .. of k numbers
+pub table : (ℕ → ℕ) → ℕ → List ℕ
+table f zero = []
+table f (suc k) = f 0 ∷ table (λ i. f (suc i)) k
+
+table-length : (f : ℕ → ℕ) (k : ℕ) → length (table f k) ≡ k
+unfolding table
+table-length f zero = refl
+table-length f (suc k) = ap suc (table-length (λ i. f (suc i)) k)
+
+pub table-at : (f : ℕ → ℕ) (k i : ℕ) → i < k → getD (table f k) i 0 ≡ f i
+unfolding table
+table-at f zero i h = absurd (omega arith)
+table-at f (suc k) zero h = refl
+table-at f (suc k) (suc i) h = table-at (λ i. f (suc i)) k i (le-of-suc-le-suc h)
+
+pub words-table : {M : ℕ} (f : ℕ → ℕ) (k : ℕ) → ((i : ℕ) → f i < M) → Words k M (table f k)
+words-table f k h = record { size = table-length f k; below = λ i l. rw (table-at f k i l) (h i) }
 
 -- ---- one word changed
 pub length-change : (f : ℕ → ℕ) (i : ℕ) (xs : List ℕ) → length (change f i xs) ≡ length xs

@@ -1,8 +1,8 @@
 // The tape of random words: its place, and one draw.
 use words::bits;
-use words::power;
 ghost use mathlib.Core.Path.{_≡_};
-ghost use Prim.Native.Nat.{_%_, _≤_};
+ghost use Prim.Native.Nat.{_%_, _^_, _≤_};
+ghost use Rattle.numbers.specs.Bits.{bitsOf};
 ghost use Rattle.tape.specs.Tape.{start, drawAt};
 ghost use Rattle.tape.specs.Answers.{drawn};
 
@@ -17,7 +17,15 @@ pub enum Draw {
     Ended,
 }
 
-// The low bits of a word: its remainder by a power of two.
+// 2 to the number of bits of a draw below m: up to 2^32, so it has 64 bits.
+fn span_of(m: u32) -> u64
+    requires { ⌜ 2 ≤ m ⌝ }
+    ensures { λ r. ⌜ r ≡ 2 ^ bitsOf m ⌝ }
+{
+    1u64 << bits(m)
+}
+
+// The low bits of a word: its remainder by that power of two, which compiles to a mask.
 fn low(w: u32, span: u64) -> u32
     requires { ⌜ 1 ≤ span ⌝ }
     ensures { λ r. ⌜ r ≡ w % span ⌝ }
@@ -38,7 +46,7 @@ impl Cursor {
         requires { ⌜ 2 ≤ m ⌝ }
         ensures { λ r. ⌜ drawn r ≡ drawAt (now (tape .entry)) self m ⌝ }
     {
-        let span = power(bits(m));
+        let span = span_of(m);
         let mut at = self.at;
         while at < tape.len() {
             let r = low(tape[at], span);

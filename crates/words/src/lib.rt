@@ -53,9 +53,9 @@ pub fn alpha(n: u32) -> u32
     bits(n)
 }
 
-pub fn power(k: u32) -> u64
-    requires { ⌜ k ≤ 32 ⌝ }
+pub fn power(k: u32) -> u32
+    requires { ⌜ k ≤ 31 ⌝ }
     ensures { λ r. ⌜ r ≡ 2 ^ k ⌝ }
 {
-    1u64 << k
+    1u32 << k
 }

@@ -8,7 +8,7 @@ shl-result : tie.Need-shl-result
 shl-result c = search needs
 
 returns : tie.Need-returns
-returns c = one-shl 64 _ (omega arith)
+returns c = one-shl 32 _ (omega arith)
 
 pub power-spec : {M : Type 1} → statement M
 power-spec = tie.close (tie.spec shl-result returns)

@@ -1,11 +1,9 @@
 use borrow.Author.Needs.{needs}
-use mathlib.Core.Path.{_≡_, refl, sym, ap, _∙_}
-use Prim.Native.Nat.{ℕ, _-_, _^_}
+use mathlib.Core.Path.{_≡_, refl, sym, _∙_}
+use Prim.Native.Nat.{_-_}
 use lib.ListN.{length, getD}
 use denote.Ref.{now}
 use lib.Pow.{pow-pos}
-use Rattle.numbers.specs.Bits.{bitsOf}
-use Rattle.numbers.proofs.BitsLaws.{bits-most}
 use Rattle.tape.specs.Tape.{lowBits, drawAt}
 use Rattle.tape.specs.Answers.{drawn}
 use Rattle.tape.proofs.DrawLaws.{draw-end, draw-hit, draw-skip, low-is}
@@ -18,23 +16,14 @@ Inv-loop tape m span at₀ at = drawAt tape (record { at = at }) m ≡ drawAt ta
 abbrev μ-loop : tie.MeasureT-loop
 μ-loop tape m span at₀ at = length tape - at
 
-abbrev start : tie.After-power Inv-loop μ-loop → tie.Start Inv-loop μ-loop
-start c = c .before .before .before
-
-span : (c : tie.After-power Inv-loop μ-loop) → c .power .result ≡ 2 ^ bitsOf (start c .args .m)
-span c = c .power .ensures ∙ ap (λ (k : ℕ). 2 ^ k) (c .before .bits .ensures)
-
 -- what was read is the word's low bits
 read : (c : tie.After-low Inv-loop μ-loop) →
-    lowBits (start (c .before .before .before .before) .args .m) (getD (now (start (c .before .before .before .before) .args .tape)) (c .before .before .before .loop .at) 0)
-    ≡ c .low .result
-read c = low-is _ _ _ _ (span (c .before .before .before .before)) (c .low .ensures)
+    let l = c .before .before .before in
+    lowBits (l .before .before .before .args .m) (getD (now (l .before .before .before .args .tape)) (l .loop .at) 0) ≡ c .low .result
+read c = low-is _ _ _ _ (c .before .before .before .before .span-of .ensures) (c .low .ensures)
 
-bits-requires : tie.Need-bits-requires Inv-loop μ-loop
-bits-requires c κs = search needs
-
-power-requires : tie.Need-power-requires Inv-loop μ-loop
-power-requires c κs = rw (c .bits .ensures) (bits-most _)
+span-of-requires : tie.Need-span-of-requires Inv-loop μ-loop
+span-of-requires c κs = search needs
 
 loop-holds : tie.Need-loop-holds Inv-loop μ-loop
 loop-holds c = refl
@@ -46,7 +35,7 @@ shared-slice-read-low : tie.Need-shared-slice-read-low Inv-loop μ-loop
 shared-slice-read-low c = search needs
 
 low-requires : tie.Need-low-requires Inv-loop μ-loop
-low-requires c κs = rw (span (c .before .before .before)) (pow-pos _)
+low-requires c κs = rw (c .before .before .before .span-of .ensures) (pow-pos _)
 
 add-at : tie.Need-add-at Inv-loop μ-loop
 add-at c = search needs
@@ -75,8 +64,7 @@ draw-spec =
     (tie.spec
     Inv-loop
     μ-loop
-    bits-requires
-    power-requires
+    span-of-requires
     loop-holds
     mul-low
     shared-slice-read-low

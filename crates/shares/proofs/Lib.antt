@@ -1,0 +1,5 @@
+pub mod SharingLaws
+pub mod ArraysLaws
+pub mod TurnLaws
+pub mod RefreshLaws
+pub mod SettingLaws

@@ -1,0 +1,17 @@
+-- Laws of both kinds of sharing: their words form a group, and are put together to their value.
+use mathlib.Core.Path.{_≡_, refl}
+use mathlib.Core.List.{List}
+use Prim.Native.Nat.{ℕ, _<_}
+use Rattle.numbers.specs.Lists.{fold, xorAll}
+use Rattle.numbers.proofs.GroupLaws.{Group, sums, xors}
+use Rattle.numbers.proofs.FoldLaws.{fold-sum}
+use Rattle.shares.specs.Sharing.{Sharing, arithmetic, boolean, bound, value, plus, minus}
+
+pub group : (s : Sharing) → 0 < bound s → Group (bound s) (plus s) (minus s)
+group (arithmetic M) h = sums M h
+group (boolean k) h = xors k
+
+pub fold-value : (s : Sharing) → 0 < bound s → (xs : List ℕ) → fold (plus s) xs ≡ value s xs
+unfolding xorAll
+fold-value (arithmetic M) h xs = fold-sum M h xs
+fold-value (boolean k) h xs = refl

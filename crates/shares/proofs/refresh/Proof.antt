@@ -1,0 +1,116 @@
+use borrow.Author.Needs.{needs}
+use mathlib.Core.Path.{refl}
+use Prim.Native.Nat.{_-_}
+use native.Mathlib.Omega.{arith}
+use lib.ListN.{take}
+use Rattle.draws.specs.Draws.{run}
+use Rattle.shares.specs.Refresh.{refresh}
+use Rattle.shares.proofs.ArraysLaws.{held-at, whole, cut-off}
+use Rattle.shares.proofs.TurnLaws.{Left, left-start, left-none, left-ended, left-draw, left-first, left-more}
+use Rattle.shares.specs.Sharing.{arithmetic}
+use Rattle.shares.proofs.refresh.Statement.{statement}
+use Rattle.shares.proofs.refresh.Tie as tie
+
+abbrev Inv-loop : tie.InvT-loop
+Inv-loop n m tape words₀ cur₀ last i₀ words cur i = Left (arithmetic m) 8 n tape (run (refresh (arithmetic m) (take n words₀)) tape cur₀) i words cur
+
+abbrev μ-loop : tie.MeasureT-loop
+μ-loop n m tape words₀ cur₀ last i₀ words cur i = last - i
+
+sub-last : tie.Need-sub-last Inv-loop μ-loop
+sub-last c = search needs
+
+loop-holds : tie.Need-loop-holds Inv-loop μ-loop
+loop-holds c = left-start _ 8 _ _ _ _ (c .before .pre)
+
+draw-requires : tie.Need-draw-requires Inv-loop μ-loop
+draw-requires c κs = search needs
+
+enum-known-r : tie.Need-enum-known-r Inv-loop μ-loop
+enum-known-r c = search needs
+
+enum-told : tie.Need-enum-told Inv-loop μ-loop
+enum-told c = search needs
+
+returns : tie.Need-returns Inv-loop μ-loop
+returns c = let d = c .before .before in cut-off refl (left-ended (d .before .before .loop .inv) (d .before .loop-test .taken) _ (d .draw .ensures) (c .enum-told .given .1))
+
+mul-add-mod : tie.Need-mul-add-mod Inv-loop μ-loop
+mul-add-mod c = search needs
+
+array-read-add-mod : tie.Need-array-read-add-mod Inv-loop μ-loop
+array-read-add-mod c = search needs
+
+add-mod-requires : tie.Need-add-mod-requires Inv-loop μ-loop
+add-mod-requires c κs =
+    let d = c .before .before .before in
+    let l = d .before .before .loop .inv in
+    (held-at (l .held) _, left-draw l (d .before .loop-test .taken) _ (d .draw .ensures) (c .before .r .given .1))
+
+mul-words : tie.Need-mul-words Inv-loop μ-loop
+mul-words c = search needs
+
+array-write-words : tie.Need-array-write-words Inv-loop μ-loop
+array-write-words c = search needs
+
+mul-sub-mod : tie.Need-mul-sub-mod Inv-loop μ-loop
+mul-sub-mod c = search needs
+
+array-read-sub-mod : tie.Need-array-read-sub-mod Inv-loop μ-loop
+array-read-sub-mod c = search needs
+
+sub-mod-requires : tie.Need-sub-mod-requires Inv-loop μ-loop
+sub-mod-requires c κs =
+    let g = c .before .before in
+    let d = g .before .before in
+    let l = d .before .before .loop .inv in
+    let h = d .before .loop-test .taken in
+    (held-at (left-first l h _ (d .draw .ensures) (g .r .given .1) (c .add-mod .ensures)) _, left-draw l h _ (d .draw .ensures) (g .r .given .1))
+
+mul-words-2 : tie.Need-mul-words-2 Inv-loop μ-loop
+mul-words-2 c = search needs
+
+array-write-words-2 : tie.Need-array-write-words-2 Inv-loop μ-loop
+array-write-words-2 c = search needs
+
+add-i : tie.Need-add-i Inv-loop μ-loop
+add-i c = search needs
+
+loop-less : tie.Need-loop-less Inv-loop μ-loop
+loop-less c = search needs
+
+loop-again : tie.Need-loop-again Inv-loop μ-loop
+loop-again c =
+    let g = c .before .before .before in
+    let d = g .before .before in
+    left-more (d .before .before .loop .inv) (d .before .loop-test .taken) _ (d .draw .ensures) (g .r .given .1) (c .before .add-mod .ensures) (c .sub-mod .ensures)
+
+returns-2 : tie.Need-returns-2 Inv-loop μ-loop
+returns-2 c = let l = c .before .loop .inv in whole refl (l .held .all) (left-none l (c .loop-test .left))
+
+pub refresh-spec : {M : Type 1} → statement M
+refresh-spec =
+    tie.close
+    (tie.spec
+    Inv-loop
+    μ-loop
+    sub-last
+    loop-holds
+    draw-requires
+    enum-known-r
+    enum-told
+    returns
+    mul-add-mod
+    array-read-add-mod
+    add-mod-requires
+    mul-words
+    array-write-words
+    mul-sub-mod
+    array-read-sub-mod
+    sub-mod-requires
+    mul-words-2
+    array-write-words-2
+    add-i
+    loop-less
+    loop-again
+    returns-2)

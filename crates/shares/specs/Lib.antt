@@ -1,0 +1,4 @@
+pub mod Sharing
+pub mod Refresh
+pub mod Closing
+pub mod Arrays
