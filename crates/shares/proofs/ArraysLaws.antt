@@ -28,15 +28,23 @@ module _ {size n M : ℕ} {words : List ℕ} (a : Held size n M words) where
   pub held-shares : Words n M (take n words)
   held-shares = words-take n (a .most) (a .all)
 
-module _ {n M : ℕ} {r : Shared} {x : Ran (List ℕ)} where
-  -- what a call gave, where its answer was found to be whole, and where not
-  pub gave : Gave n M r x → not (r .ok) ≡ false → x ≡ ran (take n (r .words)) (r .cursor)
+-- what an answer stands for, where it was found to be whole, and where not
+module _ (n : ℕ) (r : Shared) where
+  pub shared-whole : not (r .ok) ≡ false → shared n r ≡ ran (take n (r .words)) (r .cursor)
   unfolding shared
-  gave g t = sym (g .is) ∙ rw (not-false (r .ok) t)
+  shared-whole t = rw (not-false (r .ok) t)
+
+  pub shared-none : not (r .ok) ≡ true → shared n r ≡ ended
+  unfolding shared
+  shared-none t = rw (not-true (r .ok) t)
+
+module _ {n M : ℕ} {r : Shared} {x : Ran (List ℕ)} where
+  -- what a call gave
+  pub gave : Gave n M r x → not (r .ok) ≡ false → x ≡ ran (take n (r .words)) (r .cursor)
+  gave g t = sym (g .is) ∙ shared-whole n r t
 
   pub stopped : Gave n M r x → not (r .ok) ≡ true → x ≡ ended
-  unfolding shared
-  stopped g t = sym (g .is) ∙ rw (not-true (r .ok) t)
+  stopped g t = sym (g .is) ∙ shared-none n r t
 
   -- the answers that the code makes
   pub whole : r .ok ≡ true → Words 8 M (r .words) → ran (take n (r .words)) (r .cursor) ≡ x → Gave n M r x

@@ -1,0 +1,80 @@
+-- Laws of what a gadget tells.
+use mathlib.Core.Path.{_≡_, refl, sym, ap, ap₂, _∙_}
+use mathlib.Core.Bool.{Bool}
+use mathlib.Core.List.{List}
+use Prim.Native.Nat.{ℕ, _≤_}
+use native.Mathlib.Omega.{arith}
+use lib.ListN.{length, take}
+use borrow.Author.Tests.{eq-eqb, ne-eqb}
+use Rattle.tape.specs.declared.Cursor.{Cursor}
+use Rattle.tape.specs.Tape.{Ran, ended, ran, start}
+use Rattle.draws.specs.Draws.{Draws, done, bind, after, next, run}
+use Rattle.draws.proofs.RunLaws.{bind-assoc, run-bind, run-done}
+use Rattle.shares.specs.Sharing.{Sharing, bound}
+use Rattle.shares.specs.Refresh.{refresh}
+use Rattle.shares.specs.declared.Shared.{Shared}
+use Rattle.shares.specs.Arrays.{Held, shared, Gave}
+use Rattle.gate.specs.Checks.{firstFailing, checks}
+use Rattle.gate.specs.declared.Answer.{Answer}
+use Rattle.gate.specs.Told.{Told, refusal, silent, quietly, told, toldBy}
+use Rattle.gate.specs.Gadget.{Gadget, quiet, quietGadget, closed, fails, tells}
+use Rattle.gate.specs.Copied.{Copied}
+use Rattle.gate.proofs.CheckLaws.{Passed}
+
+module _ (g : Gadget) (shares tape out : List ℕ) where
+  -- no check fails
+  pub tells-passed : fails g shares out ≡ 0 → tells g shares tape out ≡ told (g .fields) (run (closed (g .output) (g .steps shares)) tape start) out
+  unfolding tells
+  tells-passed e = rw (eq-eqb (fails g shares out) 0 e)
+
+  -- one does
+  pub tells-refused : (fails g shares out ≡ 0 → ⊥) → tells g shares tape out ≡ refusal (g .fields) (fails g shares out) out
+  unfolding tells
+  tells-refused n = rw (ne-eqb (fails g shares out) 0 n)
+
+-- steps that open nothing, closed, are the steps and then the refresh
+pub closed-quiet : (s : Sharing) (d : Draws (List ℕ)) (tape : List ℕ) (p : Cursor) → run (closed s (quiet d)) tape p ≡ quietly (run (bind d (refresh s)) tape p)
+unfolding closed quiet bind next after quietly run
+closed-quiet s d tape p =
+    ap (λ e. run e tape p) (bind-assoc d (λ xs. done (silent xs)) (λ o. bind (refresh s (o .shares)) (λ zs. done (record { opened = o .opened; shares = zs })))
+    ∙ sym (bind-assoc d (refresh s) (λ zs. done (silent zs))))
+    ∙ run-bind (bind d (refresh s)) (λ zs. done (silent zs)) tape p
+    ∙ last (run (bind d (refresh s)) tape p)
+  where
+    last : (x : Ran (List ℕ)) → next x (λ zs c. run (done (silent zs)) tape c) ≡ quietly x
+    last ended = refl
+    last (ran zs c) = refl
+
+-- what the code's answers stand for
+module _ (x : Ran (List ℕ)) (out : List ℕ) where
+  pub told-ended : x ≡ ended → refusal 0 5 out ≡ told 0 (quietly x) out
+  unfolding told quietly
+  told-ended e = rw e
+
+  pub told-ran : {ys : List ℕ} {c : Cursor} → x ≡ ran ys c → (r : Answer) → r .number ≡ 0 → r .used ≡ c .at → toldBy r ys ≡ told 0 (quietly x) out
+  unfolding told toldBy quietly
+  told-ran e r f g = rw (e, f, g)
+
+-- a public gadget that opens nothing keeps its promise: where a check failed, and where its steps ran
+module _ (inRange : Bool) (input output : Sharing) (steps : List ℕ → Draws (List ℕ)) (shares tape out : List ℕ) where
+  pub quiet-refused : {k : ℕ} {t : Told} → k ≡ firstFailing (checks shares (length out) inRange (bound input)) → (k ≡ 0 → ⊥) → t ≡ refusal 0 k out →
+      t ≡ tells (quietGadget inRange input output steps) shares tape out
+  unfolding fails
+  quiet-refused e n f = f ∙ ap (λ (m : ℕ). refusal 0 m out) e ∙ sym (tells-refused (quietGadget inRange input output steps) shares tape out (λ z. n (e ∙ z)))
+
+  pub quiet-ran : {t : Told} {x : Ran (List ℕ)} → firstFailing (checks shares (length out) inRange (bound input)) ≡ 0 →
+      t ≡ told 0 (quietly x) out → x ≡ run (bind (steps shares) (refresh output)) tape start →
+      t ≡ tells (quietGadget inRange input output steps) shares tape out
+  unfolding fails
+  quiet-ran e f h =
+      f ∙ ap (λ y. told 0 (quietly y) out) h ∙ ap (λ y. told 0 y out) (sym (closed-quiet output (steps shares) tape start))
+      ∙ sym (tells-passed (quietGadget inRange input output steps) shares tape out e)
+
+-- steps that ran on the copied shares from the tape's start ran on the shares
+pub on-copy : (d : List ℕ → Draws (List ℕ)) {shares words : List ℕ} (tape : List ℕ) {room M : ℕ} {c : Cursor} {s : Shared} →
+    Copied shares words → room ≡ length shares → c ≡ start → Gave (length shares) M s (run (d (take (length shares) words)) tape c) → shared room s ≡ run (d shares) tape start
+on-copy d tape {s = s} w e f g = ap (λ (n : ℕ). shared n s) e ∙ g .is ∙ ap₂ (λ (xs : List ℕ) (p : Cursor). run (d xs) tape p) (w .first) f
+
+-- the copied shares, below M where no check failed
+pub held : {shares words : List ℕ} {room : ℕ} {inRange : Bool} {M : ℕ} → Passed shares room inRange M → 2 ≤ M → Copied shares words → Held 8 (length shares) M words
+held {M = M} p two w = record { least = p .least; most = p .most; two = two; all = w .rest M (omega arith) (p .below) }

@@ -1,0 +1,71 @@
+use borrow.Author.Needs.{needs}
+use mathlib.Core.Path.{_≡_, refl, _∙_}
+use Prim.Native.Nat.{ℕ, _-_, _≤_, _<_}
+use native.Mathlib.Nat.{le-antisymm}
+use native.Mathlib.Omega.{arith}
+use lib.ListN.{length, take, length-set}
+use lib.Seq.{take-length}
+use Rattle.numbers.specs.Lists.{Words}
+use Rattle.numbers.proofs.WordsLaws.{words-at, words-set, words-same}
+use Rattle.gate.proofs.CopyLaws.{copy-more}
+use Rattle.gate.proofs.copy_in.Statement.{statement}
+use Rattle.gate.proofs.copy_in.Tie as tie
+
+abbrev Inv-loop : tie.InvT-loop
+Inv-loop shares words₀ i₀ words i =
+    (i ≤ length shares) × (length words ≡ 8) × (take i words ≡ take i shares) × ((M : ℕ) → 0 < M → Words (length shares) M shares → Words 8 M words)
+
+abbrev μ-loop : tie.MeasureT-loop
+μ-loop shares words₀ i₀ words i = length shares - i
+
+loop-holds : tie.Need-loop-holds Inv-loop μ-loop
+loop-holds c = (search needs, search needs, refl, λ M h w. words-same h)
+
+mul-words : tie.Need-mul-words Inv-loop μ-loop
+mul-words c = search needs
+
+shared-slice-read-words : tie.Need-shared-slice-read-words Inv-loop μ-loop
+shared-slice-read-words c = search needs
+
+mul-words-2 : tie.Need-mul-words-2 Inv-loop μ-loop
+mul-words-2 c = search needs
+
+array-write-words : tie.Need-array-write-words Inv-loop μ-loop
+array-write-words c = search needs
+
+add-i : tie.Need-add-i Inv-loop μ-loop
+add-i c = search needs
+
+loop-less : tie.Need-loop-less Inv-loop μ-loop
+loop-less c = search needs
+
+loop-again : tie.Need-loop-again Inv-loop μ-loop
+loop-again c =
+    let l = c .before .before .loop .inv in (
+      omega arith,
+      simp length-set (l .1),
+      copy-more _ _ _ (c .before .loop-test .taken) (omega arith) (l .2),
+      λ M h w. words-set (l .3 M h w) _ (words-at h w _),
+    )
+
+returns : tie.Need-returns Inv-loop μ-loop
+returns c =
+    let l = c .before .loop .inv in
+    let e = le-antisymm (l .0) (c .loop-test .left) in
+    record { first = rw (← e) (l .2 ∙ rw e (take-length _)); rest = l .3 }
+
+pub copy-in-spec : {M : Type 1} → statement M
+copy-in-spec =
+    tie.close
+    (tie.spec
+    Inv-loop
+    μ-loop
+    loop-holds
+    mul-words
+    shared-slice-read-words
+    mul-words-2
+    array-write-words
+    add-i
+    loop-less
+    loop-again
+    returns)

@@ -1,0 +1,11 @@
+use mathlib.Core.Path.{refl}
+use Rattle.gate.specs.Told.{refusal, toldBy}
+use Rattle.gate.proofs.refused.Statement.{statement}
+use Rattle.gate.proofs.refused.Tie as tie
+
+returns : tie.Need-returns
+unfolding refusal toldBy
+returns c = λ out. refl
+
+pub refused-spec : {M : Type 1} → statement M
+refused-spec = tie.close (tie.spec returns)

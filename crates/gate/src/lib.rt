@@ -1,0 +1,116 @@
+// Between a caller's slices and arrays of shares: the checks in their order, the answer, and copies in and out.
+use shares::Shared;
+use words::power;
+ghost use mathlib.Core.Path.{_≡_};
+ghost use mathlib.Core.List.{List};
+ghost use Prim.Native.Nat.{ℕ, _^_, _≤_};
+ghost use lib.ListN.{length, take};
+ghost use Rattle.shares.specs.Arrays.{shared};
+ghost use Rattle.gate.specs.Checks.{inside, allBelow, firstFailing, checks};
+ghost use Rattle.gate.specs.Told.{refusal, quietly, told, toldBy};
+ghost use Rattle.gate.specs.Copied.{Copied};
+
+// What a caller gets back: 0, or the number of a refusal; and how many tape words were read, 0 in a refusal.
+pub struct Answer {
+    pub number: u32,
+    pub used: usize,
+}
+
+pub fn inside(low: u32, high: u32, x: u32) -> bool
+    ensures { λ r. ⌜ r ≡ inside low high x ⌝ }
+{
+    if x < low {
+        return false;
+    }
+    x <= high
+}
+
+// What Boolean shares of width k are below, if k is 31 at most. For any other k, which number 3 refuses, it is some number.
+pub fn width_bound(k: u32) -> u32
+    ensures { λ r. ⌜ (k ≤ 31 → r ≡ 2 ^ k) ⌝ }
+{
+    power(k % 32)
+}
+
+fn all_below(shares: &[u32], m: u32) -> bool
+    ensures { λ r. ⌜ r ≡ allBelow m (now (shares .entry)) ⌝ }
+{
+    let mut i = 0;
+    while i < shares.len() {
+        if m <= shares[i] {
+            return false;
+        }
+        i += 1;
+    }
+    true
+}
+
+// The number of the first check that fails, or 0: no share is looked at before the parameters are found to be in range.
+pub fn first_failing(shares: &[u32], room: usize, in_range: bool, m: u32) -> u32
+    ensures { λ r. ⌜ r ≡ firstFailing (checks (now (shares .entry)) room in_range m) ⌝ }
+{
+    let n = shares.len();
+    if n < 2 {
+        return 1;
+    }
+    if 8 < n {
+        return 1;
+    }
+    if room != n {
+        return 2;
+    }
+    if !in_range {
+        return 3;
+    }
+    if !all_below(shares, m) {
+        return 4;
+    }
+    0
+}
+
+pub fn copy_in(shares: &[u32]) -> [u32; 8]
+    requires { ⌜ length (now shares) ≤ 8 ⌝ }
+    ensures { λ r. ⌜ Copied (now (shares .entry)) r ⌝ }
+{
+    let mut words = [0u32; 8];
+    let mut i = 0;
+    while i < shares.len() {
+        words[i] = shares[i];
+        i += 1;
+    }
+    words
+}
+
+fn copy_out(words: [u32; 8], out: &mut [u32])
+    requires { ⌜ length (now out) ≤ 8 ⌝ }
+    ensures { λ _. ⌜ now (out .exit) ≡ take (length (now (out .entry))) words ⌝ }
+{
+    let mut i = 0;
+    while i < out.len() {
+        out[i] = words[i];
+        i += 1;
+    }
+}
+
+pub fn refused(number: u32) -> Answer
+    ensures { λ r. ⌜ ((out : List ℕ) → toldBy r out ≡ refusal 0 number out) ⌝ }
+{
+    Answer { number, used: 0 }
+}
+
+// The shares that a gadget gave fill the output slice; where the tape has ended, the slice stays as it was.
+pub fn finish(s: Shared, out: &mut [u32]) -> Answer
+    requires { ⌜ length (now out) ≤ 8 ⌝ }
+    ensures { λ r. ⌜ toldBy r (now (out .exit)) ≡ told 0 (quietly (shared (length (now (out .entry))) s)) (now (out .entry)) ⌝ }
+{
+    if !s.ok {
+        return refused(5);
+    }
+    let words = s.words;
+    copy_out(words, out);
+    let c = s.cursor;
+    Answer {
+        number: 0,
+        used: c.at,
+    }
+}
