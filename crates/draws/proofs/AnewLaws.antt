@@ -17,7 +17,7 @@ use Rattle.tape.specs.declared.Cursor.{Cursor}
 use Rattle.tape.specs.Tape.{ran, lowBits}
 use Rattle.draws.specs.Draws.{Draws, run}
 use Rattle.draws.specs.Plan.{Plan, feed, places, skipped}
-use Rattle.draws.specs.Anew.{highBits, withLow, setAt, marked, merged, Marks, anew, Among, Same, SetAnew}
+use Rattle.draws.specs.Anew.{highBits, withLow, setAt, marked, merged, Marks, anew, Among, Same, SetAnew, ExactlyOne}
 use Rattle.draws.proofs.DrawnLaws.{Drawn, drawn-moves, drawn-gave, drawn-reads, drawn-anew, same-within, with-high}
 use Rattle.draws.proofs.PlanLaws.{Reads, none, one, reads-run, reads-places, reads-fit, fits-length, one-skipped, planned-ran}
 use Rattle.draws.proofs.MarksLaws.{among-marked, marked-length, marked-merged}
@@ -68,6 +68,11 @@ reads-moves : {tape ms : List ℕ} {p : Cursor} {rs ws : List ℕ} {q : Cursor} 
 reads-moves none = omega arith
 reads-moves (one a x) = omega (arith, drawn-moves a .0, reads-moves x)
 
+-- and past the tape's end nothing is read
+reads-within-tape : {tape ms : List ℕ} {p : Cursor} {rs ws : List ℕ} {q : Cursor} → Reads tape ms p rs ws q → p .at ≤ length tape → q .at ≤ length tape
+reads-within-tape none h = h
+reads-within-tape (one a x) h = reads-within-tape x (drawn-moves a .1)
+
 -- they lie from the place where the reading began up to the place that it hands on
 pub reads-within : {tape ms : List ℕ} {p : Cursor} {rs ws : List ℕ} {q : Cursor} → Reads tape ms p rs ws q → (i : ℕ) → Among i ws → (p .at ≤ i) × (i < q .at)
 reads-within none i (a, l, e) = absurd (omega arith)
@@ -102,19 +107,19 @@ reads-gave (one {ms = ms} y x) (true ∷ bs) (suc k) M mk (suc a) h = let e : ma
 -- ---- marked draws, set anew one after another
 
 -- nothing before a plan's place changes when draws of the plan are set anew
-before-same : (bs : List Bool) (M : ℕ) {tape ms : List ℕ} {p : Cursor} {rs ws : List ℕ} {q : Cursor} → Reads tape ms p rs ws q → (us : List ℕ) (b : ℕ) →
+before-same : (bs : List Bool) (M : ℕ) {tape ms : List ℕ} {p : Cursor} {rs ws : List ℕ} {q : Cursor} → Reads tape ms p rs ws q → p .at ≤ length tape → (us : List ℕ) (b : ℕ) →
     Same tape (setAt M tape (marked bs ws) us) b (p .at)
-before-same bs M {tape} {ws = ws} x us b =
+before-same bs M {tape} {ws = ws} x r us b =
     record {
-      size = sym (set-at-length M tape (marked bs ws) us);
+      reaches = omega (arith, set-at-length M tape (marked bs ws) us);
       words = λ i h l. sym (set-at-other M tape (marked bs ws) us i (λ y. let w = reads-within x i (among-marked bs ws i y) in omega arith));
     }
 
 -- nothing after a draw changes when it is set anew
-after-same : {M : ℕ} {tape : List ℕ} {p : Cursor} {r : ℕ} {s : Cursor} → Drawn M tape p r s → (x b : ℕ) → Same tape (set tape (s .at - 1) x) (s .at) b
-after-same {tape = tape} {s = s} a x b =
+after-same : {M : ℕ} {tape : List ℕ} {p : Cursor} {r : ℕ} {s : Cursor} → Drawn M tape p r s → (x b : ℕ) → b ≤ length tape → Same tape (set tape (s .at - 1) x) (s .at) b
+after-same {tape = tape} {s = s} a x b e =
     let o = drawn-moves a in
-    record { size = sym (length-set tape (s .at - 1) x); words = λ i h l. sym (getD-set-other tape (s .at - 1) i x 0 (omega arith)) }
+    record { reaches = omega (arith, length-set tape (s .at - 1) x); words = λ i h l. sym (getD-set-other tape (s .at - 1) i x 0 (omega arith)) }
 
 -- the marked draws are those that were set, the others are as they were, and every place stays
 set-marked : (M : ℕ) → M ≤ 2 ^ bitsOf M → (bs : List Bool) (k : ℕ) {tape ms : List ℕ} {p : Cursor} {rs ws : List ℕ} {q : Cursor} → Reads tape ms p rs ws q →
@@ -122,7 +127,7 @@ set-marked : (M : ℕ) → M ≤ 2 ^ bitsOf M → (bs : List Bool) (k : ℕ) {ta
 unfolding setAt marked merged
 set-marked M f [] k x mk us w = x
 set-marked M f (b ∷ bs) k none mk us w = none
-set-marked M f (false ∷ bs) k {p = p} (one a x) mk us w = one (drawn-reads a (before-same bs M x us (p .at))) (set-marked M f bs k x mk us w)
+set-marked M f (false ∷ bs) k {p = p} (one a x) mk us w = one (drawn-reads a (before-same bs M x (drawn-moves a .1) us (p .at))) (set-marked M f bs k x mk us w)
 set-marked M f (true ∷ bs) zero (one a x) mk us w = absurd (omega (arith, ap length mk))
 set-marked M f (true ∷ bs) (suc k) (one a x) mk [] w = absurd (omega (arith, w .size))
 set-marked M f (true ∷ bs) (suc k) {tape} {p = p} (one {M = m} {ms = ms} {r = r} {s = s} {ws = ws} {q = q} a x) mk (u ∷ us) w =
@@ -130,9 +135,9 @@ set-marked M f (true ∷ bs) (suc k) {tape} {p = p} (one {M = m} {ms = ms} {r = 
     let mk′ : marked bs ms ≡ replicate k M = cc in
     let v : ℕ = withLow M (getD tape (s .at - 1) 0) u in
     let t : List ℕ = set tape (s .at - 1) v in
-    let y : Reads t ms s _ ws q = reads-same x (after-same a v (q .at)) in
+    let y : Reads t ms s _ ws q = reads-same x (after-same a v (q .at) (reads-within-tape x (drawn-moves a .1))) in
     let d : Drawn M t p u s = drawn-anew (subst (λ (j : ℕ). Drawn j tape p r s) e a) u (words-head w) (omega (arith, words-head w)) in
-    one (subst (λ (j : ℕ). Drawn j (setAt M t (marked bs ws) us) p u s) (sym e) (drawn-reads d (before-same bs M y us (p .at))))
+    one (subst (λ (j : ℕ). Drawn j (setAt M t (marked bs ws) us) p u s) (sym e) (drawn-reads d (before-same bs M y (drawn-moves d .1) us (p .at))))
     (set-marked M f bs k {tape = t} y mk′ us (words-tail w))
 
 -- ---- the places and what is put there decide the tape
@@ -216,3 +221,14 @@ module _ (bs : List Bool) (k M : ℕ) (h : 0 < M) (l : M ≤ 2 ^ 32) {tape ms : 
   -- a tape of 32-bit words stays one
   pub anew-word : ((i : ℕ) → getD tape i 0 < 2 ^ 32) → (i : ℕ) → getD (anew bs M ms tape p us) i 0 < 2 ^ 32
   anew-word f i = high-word M (getD (anew bs M ms tape p us) i 0) (getD tape i 0) (anew-is .high i) (f i)
+
+-- exactly one list has Q where exactly one has P and, among lists of k numbers below M, the two say the same
+pub exactly-as : {k M : ℕ} {P : List ℕ → Type 0} (Q : List ℕ → Type 0) →
+    ((rs : List ℕ) → Words k M rs → P rs → Q rs) → ((rs : List ℕ) → Words k M rs → Q rs → P rs) → ExactlyOne k M P → ExactlyOne k M Q
+exactly-as Q f g e =
+    record {
+      setting = e .setting;
+      words = e .words;
+      works = f (e .setting) (e .words) (e .works);
+      only = λ rs w u. e .only rs w (g rs w u);
+    }

@@ -87,16 +87,16 @@ drawn-skips {M} {tape} (skip {c = c} {q = q} h l d) =
 
 -- it reads the words from its place up to the place that it hands on, and no other
 pub same-within : {s t : List ℕ} {a b : ℕ} (u v : ℕ) → a ≤ u → v ≤ b → Same s t a b → Same s t u v
-same-within u v h l e = record { size = e .size; words = λ i x y. e .words i (omega arith) (omega arith) }
+same-within u v h l e = record { reaches = omega (arith, e .reaches); words = λ i x y. e .words i (omega arith) (omega arith) }
 
 pub drawn-reads : {M : ℕ} {s t : List ℕ} {c : Cursor} {r : ℕ} {q : Cursor} → Drawn M s c r q → Same s t (c .at) (q .at) → Drawn M t c r q
 drawn-reads {M} (hit {c = c} h e l) a =
     let w = a .words (c .at) (omega arith) (omega arith) in
-    hit {c = c} (omega (arith, a .size)) (rw w at e) l
+    hit {c = c} (omega (arith, a .reaches)) (rw w at e) l
 drawn-reads {M} (skip {c = c} {q = q} h l d) a =
     let o = drawn-moves d in
     let w = a .words (c .at) (omega arith) (omega arith) in
-    skip {c = c} (omega (arith, a .size)) (rw w at l) (drawn-reads d (same-within (c .at + 1) (q .at) (omega arith) (omega arith) a))
+    skip {c = c} (omega (arith, a .reaches)) (rw w at l) (drawn-reads d (same-within (c .at + 1) (q .at) (omega arith) (omega arith) a))
 
 -- ---- to set a draw anew
 

@@ -5,6 +5,7 @@ use mathlib.Core.List.{List, [], _∷_}
 use Prim.Native.Nat.{ℕ, _+_, _*_, _/_, _^_, _≤_, _<_}
 use lib.ListN.{length, getD, set, replicate}
 use Rattle.numbers.specs.Bits.{bitsOf}
+use Rattle.numbers.specs.Lists.{Words}
 use Rattle.tape.specs.declared.Cursor.{Cursor}
 use Rattle.tape.specs.Tape.{lowBits}
 use Rattle.draws.specs.Plan.{places}
@@ -55,9 +56,9 @@ anew bs M ms tape c us = setAt M tape (marked bs (places ms tape c)) us
 abbrev pub Among : ℕ → List ℕ → Type 0
 Among i ws = (a : ℕ) × (a < length ws) × (getD ws a 0 ≡ i)
 
--- two tapes of one length have the same words from the place a up to the place b, b left out
+-- t reaches up to the place b, and from the place a up to there, b left out, has the words of s
 pub record Same (s t : List ℕ) (a b : ℕ) : Type 0 where
-  pub size : length s ≡ length t
+  pub reaches : b ≤ length t
   pub words : (i : ℕ) → a ≤ i → i < b → getD s i 0 ≡ getD t i 0
 
 -- t is the tape with the draws that the words at ws gave set anew to rs: the low L bits of those words, and nothing more
@@ -66,3 +67,10 @@ pub record SetAnew (M : ℕ) (tape ws rs t : List ℕ) : Type 0 where
   pub others : (i : ℕ) → ¬ (Among i ws) → getD t i 0 ≡ getD tape i 0
   pub high : (i : ℕ) → highBits M (getD t i 0) ≡ highBits M (getD tape i 0)
   pub low : (a : ℕ) → a < length ws → lowBits M (getD t (getD ws a 0) 0) ≡ getD rs a 0
+
+-- of the lists of k numbers below M exactly one has Q: one has it, and any that has it is that one
+pub record ExactlyOne (k M : ℕ) (Q : List ℕ → Type 0) : Type 0 where
+  pub setting : List ℕ
+  pub words : Words k M setting
+  pub works : Q setting
+  pub only : (rs : List ℕ) → Words k M rs → Q rs → rs ≡ setting

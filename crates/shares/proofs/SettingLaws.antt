@@ -16,25 +16,15 @@ use Rattle.numbers.proofs.WordsLaws.{words-at, words-set, words-table, table, t
 use Rattle.numbers.proofs.FoldLaws.{fold-below, fold-at}
 use Rattle.draws.specs.Draws.{bind, turns}
 use Rattle.draws.specs.Plan.{feed, Fits}
-use Rattle.draws.specs.Anew.{merged, Marks}
+use Rattle.draws.specs.Anew.{merged, Marks, ExactlyOne}
 use Rattle.draws.proofs.PlanLaws.{always-feed, words-fit, fits-length}
 use Rattle.draws.proofs.MarksLaws.{all-marked, all-merged}
+use Rattle.draws.proofs.AnewLaws.{exactly-as}
 use Rattle.shares.specs.Sharing.{Sharing, bound, value, plus, minus}
 use Rattle.shares.specs.Refresh.{stir, turn, refresh, refreshPlan}
-use Rattle.shares.specs.Closing.{closingMarks, SameBut, ExactlyOne}
+use Rattle.shares.specs.Closing.{closingMarks, SameBut}
 use Rattle.shares.proofs.SharingLaws.{group, fold-value}
 use Rattle.shares.proofs.RefreshLaws.{refresh-turns, refresh-keeps}
-
--- exactly one list has Q where exactly one has P and, among lists of k numbers below M, the two say the same
-pub exactly-as : {k M : ℕ} {P : List ℕ → Type 0} (Q : List ℕ → Type 0) →
-    ((rs : List ℕ) → Words k M rs → P rs → Q rs) → ((rs : List ℕ) → Words k M rs → Q rs → P rs) → ExactlyOne k M P → ExactlyOne k M Q
-exactly-as Q f g e =
-    record {
-      setting = e .setting;
-      words = e .words;
-      works = f (e .setting) (e .words) (e .works);
-      only = λ rs w u. e .only rs w (g rs w u);
-    }
 
 -- ---- the share that is left out is fixed by the others and the value
 

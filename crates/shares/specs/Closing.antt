@@ -1,11 +1,10 @@
--- Which draws of the closing refresh are set anew, and what "exactly one setting" and "the same other shares" mean (demand 3).
+-- Which draws of the closing refresh are set anew, and what "the same other shares" are (demand 3).
 use mathlib.Core.Path.{_≡_}
 use mathlib.Core.Logic.{_≢_}
 use mathlib.Core.Bool.{Bool, true}
 use mathlib.Core.List.{List}
 use Prim.Native.Nat.{ℕ, _-_, _<_}
 use lib.ListN.{getD, replicate}
-use Rattle.numbers.specs.Lists.{Words}
 
 -- all n - 1 draws of a closing refresh of n shares
 unfoldable pub closingMarks : ℕ → List Bool
@@ -14,10 +13,3 @@ closingMarks n = replicate (n - 1) true
 -- two lists of n shares are the same but for share j
 abbrev pub SameBut : ℕ → ℕ → List ℕ → List ℕ → Type 0
 SameBut n j xs ys = (i : ℕ) → i < n → i ≢ j → getD xs i 0 ≡ getD ys i 0
-
--- of the lists of k numbers below M exactly one has Q: one has it, and any that has it is that one
-pub record ExactlyOne (k M : ℕ) (Q : List ℕ → Type 0) : Type 0 where
-  pub setting : List ℕ
-  pub words : Words k M setting
-  pub works : Q setting
-  pub only : (rs : List ℕ) → Words k M rs → Q rs → rs ≡ setting

@@ -1,0 +1,9 @@
+pub mod Steps
+pub mod Runs
+pub mod Refusals
+pub mod Values
+pub mod Settings
+pub mod Demands
+pub mod Unique
+pub mod Refresh
+pub mod Cases

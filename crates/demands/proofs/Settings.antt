@@ -1,0 +1,119 @@
+-- Demand 3, of every gadget that turns shares into shares.
+use mathlib.Core.Path.{_≡_, refl, sym, ap, subst, _∙_}
+use mathlib.Core.Bool.{Bool}
+use mathlib.Core.List.{List, _++_}
+use Prim.Native.Nat.{ℕ, _-_, _<_}
+use lib.ListN.{length}
+use Rattle.numbers.specs.Lists.{Words}
+use Rattle.tape.specs.declared.Cursor.{Cursor}
+use Rattle.tape.specs.Tape.{ran, start}
+use Rattle.draws.specs.Draws.{Draws, done, bind, run}
+use Rattle.draws.specs.Plan.{Gives, feed, Fits, places}
+use Rattle.draws.specs.Anew.{merged, Marks, marksAfter, ExactlyOne}
+use Rattle.draws.proofs.PlanLaws.{Reads, reads-fit, planned-parts, always-run, always-feed, feed-bind, feed-map, FitBoth, fits-split}
+use Rattle.draws.proofs.MarksLaws.{marked-after, merged-after}
+use Rattle.draws.proofs.AnewLaws.{anew-run, anew-is, exactly-as}
+use Rattle.shares.specs.Sharing.{Sharing, bound, value}
+use Rattle.shares.specs.Refresh.{refresh, refreshPlan}
+use Rattle.shares.specs.Closing.{closingMarks, SameBut}
+use Rattle.shares.proofs.SettingLaws.{closing-marks, refresh-closes}
+use Rattle.gate.specs.Told.{Told, Outcome}
+use Rattle.gate.specs.Gadget.{Gadget, closed, fails, tells}
+use Rattle.demands.specs.Claim.{Claim, Valid, plan}
+use Rattle.demands.specs.Settings.{SameTold, closingPlaces, closingAnew, OneSetting, Settings}
+use Rattle.demands.proofs.Steps.{Claimed, Steps}
+use Rattle.demands.proofs.Runs.{program, valid-passes, passes-valid, valid-gives, tells-success, Succeeded, succeeded, success}
+
+-- steps and then the closing refresh, fed with the draws r of the steps and others for the refresh
+closed-feed : (s : Sharing) {P : Outcome → Type 0} {d : Draws Outcome} {ms : List ℕ} → Gives P d ms → (r : List ℕ) → Fits ms r → (us : List ℕ) →
+    feed (closed s d) (r ++ us) ≡ record { opened = feed d r .opened; shares = feed (refresh s (feed d r .shares)) us }
+unfolding closed
+closed-feed s {d = d} g r f us =
+    feed-bind (g .plan) (λ o. bind (refresh s (o .shares)) (λ zs. done (record { opened = o .opened; shares = zs }))) r us f
+    ∙ feed-map (refresh s (feed d r .shares)) (λ zs. record { opened = feed d r .opened; shares = zs }) us
+
+module _ {c : Claim} (s : Steps c) (shares tape out : List ℕ) where
+  n : ℕ
+  n = length shares
+
+  M : ℕ
+  M = bound (c .gadget .output)
+
+  marks : List Bool
+  marks = marksAfter (c .draws n) (closingMarks n)
+
+  -- the closing draws are n - 1 draws below M
+  are-closing : Marks marks (plan c n) (n - 1) M
+  unfolding marks plan n M
+  are-closing = marked-after (c .draws (length shares)) (refreshPlan (c .gadget .output) (length shares)) (closingMarks (length shares)) ∙ closing-marks (c .gadget .output) (length shares)
+
+  module _ (x : Succeeded c shares tape out) (second room : List ℕ) (v : Valid c second room) (same : length second ≡ length shares)
+      (opens : c .opens (value (c .gadget .input) second) ≡ c .opens (value (c .gadget .input) shares)) (j : ℕ) (hj : j < length shares) where
+    first-valid : Valid c shares out
+    first-valid = passes-valid s (x .passes)
+
+    gx : Gives (Claimed c n shares) (program c shares) (plan c n)
+    unfolding n
+    gx = valid-gives s first-valid
+
+    gy : Gives (Claimed c n second) (program c second) (plan c n)
+    unfolding n
+    gy = subst (λ (k : ℕ). Gives (Claimed c k second) (program c second) (plan c k)) same (valid-gives s v)
+
+    inner : Gives (Claimed c n second) (c .gadget .steps second) (c .draws n)
+    unfolding n
+    inner =
+        s .give (v .range) (length shares) (first-valid .counted .0) (first-valid .counted .1) second
+        (subst (λ (k : ℕ). Words k (bound (c .gadget .input)) second) same (v .below))
+
+    shown : Claimed c n shares (x .outcome)
+    shown = always-run (gx .always) tape start (x .ran-to)
+
+    module _ {rs : List ℕ} (y : Reads tape (plan c n) start rs (places (plan c n) tape start) (x .place)) (f : FitBoth (c .draws n) (refreshPlan (c .gadget .output) n) rs) where
+      -- the second input's steps, on the first's draws
+      o : Outcome
+      o = feed (c .gadget .steps second) (f .fst)
+
+      as-claimed : Claimed c n second o
+      unfolding o
+      as-claimed = always-feed (inner .plan) (inner .always) (f .fst) (f .fit-fst)
+
+      -- what the second input gives on the tape with the closing draws set anew to us
+      given : List ℕ → Outcome
+      given us = record { opened = o .opened; shares = feed (refresh (c .gadget .output) (o .shares)) (merged (closingMarks n) (f .snd) us) }
+
+      told-on : (us : List ℕ) → Words (n - 1) M us → tells (c .gadget) second (closingAnew c n tape us) room ≡ success (given us) (x .place)
+      unfolding closingAnew given o marks M
+      told-on us w =
+          tells-success c second (closingAnew c n tape us) room (valid-passes s v)
+          (anew-run marks (n - 1) M (s .positive (v .range)) (s .word (v .range)) y are-closing us w (program c second) (gy .plan)
+          ∙ ap (λ z. ran z (x .place))
+          (ap (λ (l : List ℕ). feed (program c second) (merged marks l us)) (f .all)
+          ∙ ap (feed (program c second)) (merged-after (closingMarks n) (f .snd) us (f .fit-fst))
+          ∙ closed-feed (c .gadget .output) inner (f .fst) (f .fit-fst) (merged (closingMarks n) (f .snd) us)))
+
+      works : (us : List ℕ) → SameBut n j (given us .shares) (x .outcome .shares) → SameTold n j (success (given us) (x .place)) (success (x .outcome) (x .place))
+      unfolding given
+      works us t = record { succeeds = refl; shares = t; opened = as-claimed .opened ∙ opens ∙ sym (shown .opened); used = refl }
+
+      one : ExactlyOne (n - 1) M (λ us. SameTold n j (tells (c .gadget) second (closingAnew c n tape us) room) (tells (c .gadget) shares tape out))
+      unfolding given M n
+      one =
+          exactly-as _
+          (λ us w t. subst (λ (a : Told). SameTold n j a (tells (c .gadget) shares tape out)) (sym (told-on us w))
+          (subst (SameTold n j (success (given us) (x .place))) (sym (x .told-so)) (works us t)))
+          (λ us w t. subst (λ (a : Told). SameBut n j (a .out) (x .outcome .shares)) (told-on us w)
+          (subst (λ (a : Told). SameBut n j (tells (c .gadget) second (closingAnew c n tape us) room .out) (a .out)) (x .told-so) (t .shares)))
+          (refresh-closes (c .gadget .output) (s .positive (v .range)) n (o .shares) (x .outcome .shares) (as-claimed .words) (shown .words) j hj (f .snd) (f .fit-snd))
+
+    one-setting : OneSetting c shares tape out second room j
+    unfolding closingPlaces closingAnew n M marks plan
+    one-setting =
+        let (rs, y, e) = planned-parts (gx .plan) tape start (x .ran-to) in
+        record {
+          one-setting = one y (fits-split (c .draws n) (reads-fit y));
+          nothing-else = λ us w. anew-is marks (n - 1) M (s .positive (v .range)) (s .word (v .range)) y are-closing us w;
+        }
+
+  pub settings : Settings c shares tape out
+  settings e second room v same opens j h = one-setting (succeeded c shares tape out e) second room v same opens j h

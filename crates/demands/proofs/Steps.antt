@@ -1,0 +1,46 @@
+-- What each gadget has to show of its steps; the three demands follow from this alone.
+use mathlib.Core.Path.{_≡_, refl, sym, subst}
+use mathlib.Core.Bool.{true}
+use mathlib.Core.List.{List}
+use Prim.Native.Nat.{ℕ, _^_, _≤_, _<_}
+use native.Mathlib.Omega.{arith}
+use Rattle.numbers.specs.Lists.{Words}
+use Rattle.draws.specs.Draws.{Draws, done, bind}
+use Rattle.draws.specs.Plan.{Gives}
+use Rattle.draws.proofs.PlanLaws.{gives-bind, gives-map}
+use Rattle.shares.specs.Sharing.{Sharing, bound, value}
+use Rattle.shares.specs.Refresh.{refresh, refreshPlan}
+use Rattle.shares.proofs.RefreshLaws.{refresh-keeps}
+use Rattle.gate.specs.Told.{Outcome}
+use Rattle.gate.specs.Gadget.{Gadget, closed}
+use Rattle.demands.specs.Claim.{Claim, plan}
+
+-- an outcome of n shares, of steps on the shares xs, that is as claimed
+pub record Claimed (c : Claim) (n : ℕ) (xs : List ℕ) (o : Outcome) : Type 0 where
+  pub opened : o .opened ≡ c .opens (value (c .gadget .input) xs)
+  pub words : Words n (bound (c .gadget .output)) (o .shares)
+  pub plain : c .Plain (value (c .gadget .input) xs) (value (c .gadget .output) (o .shares))
+
+pub record Steps (c : Claim) : Type 0 where
+  -- the check of the parameters says what is claimed
+  pub in-range : c .gadget .inRange ≡ true → c .InRange
+  pub range-in : c .InRange → c .gadget .inRange ≡ true
+  -- the output's modulus, or 2 to its width, is a word's
+  pub positive : c .InRange → 0 < bound (c .gadget .output)
+  pub word : c .InRange → bound (c .gadget .output) ≤ 2 ^ 32
+  -- the steps make the claimed draws, and whatever these give, the outcome is as claimed
+  pub give : c .InRange → (n : ℕ) → 2 ≤ n → n ≤ 8 → (xs : List ℕ) → Words n (bound (c .gadget .input)) xs →
+      Gives (Claimed c n xs) (c .gadget .steps xs) (c .draws n)
+
+-- then so do the steps with the closing refresh
+pub closed-give : {c : Claim} → Steps c → c .InRange → (n : ℕ) → 2 ≤ n → n ≤ 8 → (xs : List ℕ) → Words n (bound (c .gadget .input)) xs →
+    Gives (Claimed c n xs) (closed (c .gadget .output) (c .gadget .steps xs)) (plan c n)
+unfolding closed plan
+closed-give {c} s r n least most xs w =
+    gives-bind _ (refreshPlan out n) (s .give r n least most xs w)
+    (λ o d. gives-map (Claimed c n xs) (λ zs. record { opened = o .opened; shares = zs })
+    (refresh-keeps out (s .positive r) n (value out (o .shares)) (o .shares) (omega arith) (record { words = d .words; is = refl }))
+    (λ zs k. record { opened = d .opened; words = k .words; plain = subst (c .Plain (value (c .gadget .input) xs)) (sym (k .is)) (d .plain) }))
+  where
+    out : Sharing
+    out = c .gadget .output

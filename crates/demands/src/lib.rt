@@ -1,0 +1,1 @@
+// No code: the three demands. Statements are in specs/, theorems in proofs/.
