@@ -19,7 +19,13 @@ pub fn refresh(shares: &[u32], tape: &[u32], modulus: u32, out: &mut [u32]) -> A
     if number != 0 {
         return refused(number);
     }
-    let s = shares::refresh(copy_in(shares), shares.len(), modulus, Cursor::start(), tape);
+    let s = shares::refresh(
+        copy_in(shares),
+        shares.len(),
+        modulus,
+        Cursor::start(),
+        tape,
+    );
     finish(s, out)
 }
 

@@ -1,0 +1,47 @@
+use borrow.Author.Needs.{needs}
+use mathlib.Core.Path.{sym}
+use native.Mathlib.Omega.{arith}
+use lib.Seq.{length-take-le}
+use Rattle.cases.proofs.calls.thrice.Statement.{statement}
+use Rattle.cases.proofs.calls.thrice.Tie as tie
+
+once-requires : tie.Need-once-requires
+once-requires c κs = search needs
+
+returns : tie.Need-returns
+returns c = search needs
+
+returns-2 : tie.Need-returns-2
+returns-2 c = search needs
+
+slice-aggregate-once : tie.Need-slice-aggregate-once
+slice-aggregate-once c = sym (length-take-le _ _ (omega arith))
+
+once-requires-2 : tie.Need-once-requires-2
+once-requires-2 c κs = search needs
+
+sub-once : tie.Need-sub-once
+sub-once c = search needs
+
+slice-aggregate-once-2 : tie.Need-slice-aggregate-once-2
+slice-aggregate-once-2 c = sym (length-take-le _ _ (omega arith))
+
+once-requires-3 : tie.Need-once-requires-3
+once-requires-3 c κs = search needs
+
+returns-3 : tie.Need-returns-3
+returns-3 c = search needs
+
+pub thrice-spec : {M : Type 1} → statement M
+thrice-spec =
+    tie.close
+    (tie.spec
+    once-requires
+    returns
+    returns-2
+    slice-aggregate-once
+    once-requires-2
+    sub-once
+    slice-aggregate-once-2
+    once-requires-3
+    returns-3)

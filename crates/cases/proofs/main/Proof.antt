@@ -1,0 +1,49 @@
+use borrow.Author.Needs.{needs}
+use Prim.Native.Nat.{_≤_, _-_}
+use Rattle.cases.proofs.main.Statement.{statement}
+use Rattle.cases.proofs.main.Tie as tie
+
+abbrev Inv-loop : tie.InvT-loop
+Inv-loop gadget₀ gadget = gadget ≤ 3
+
+abbrev μ-loop : tie.MeasureT-loop
+μ-loop gadget₀ gadget = 3 - gadget
+
+draw-below-q-requires : tie.Need-draw-below-q-requires Inv-loop μ-loop
+draw-below-q-requires c κs = search needs
+
+draw-below-q-requires-2 : tie.Need-draw-below-q-requires-2 Inv-loop μ-loop
+draw-below-q-requires-2 c κs = search needs
+
+loop-holds : tie.Need-loop-holds Inv-loop μ-loop
+loop-holds c = search needs
+
+lines-requires : tie.Need-lines-requires Inv-loop μ-loop
+lines-requires c κs = search needs
+
+add-gadget : tie.Need-add-gadget Inv-loop μ-loop
+add-gadget c = search needs
+
+loop-less : tie.Need-loop-less Inv-loop μ-loop
+loop-less c = search needs
+
+loop-again : tie.Need-loop-again Inv-loop μ-loop
+loop-again c = search needs
+
+returns : tie.Need-returns Inv-loop μ-loop
+returns c = search needs
+
+pub main-spec : {M : Type 1} → statement M
+main-spec =
+    tie.close
+    (tie.spec
+    Inv-loop
+    μ-loop
+    draw-below-q-requires
+    draw-below-q-requires-2
+    loop-holds
+    lines-requires
+    add-gadget
+    loop-less
+    loop-again
+    returns)

@@ -1,0 +1,53 @@
+// What is kept of the answers: how often each number came, and a checksum.
+use gate::Answer;
+
+pub struct Tally {
+    pub counts: [u32; 6],
+    pub sum: u32,
+    // the words used in the last answer
+    pub used: usize,
+}
+
+// The low 32 bits of a count.
+pub fn low(n: usize) -> u32 {
+    (n % 4294967296) as u32
+}
+
+// The next pseudo-random word: xorshift with 13, 17 and 5.
+pub fn step(x: u32) -> u32 {
+    let a = x ^ (x << 13);
+    let b = a ^ (a >> 17);
+    b ^ (b << 5)
+}
+
+// A word into the checksum.
+pub fn mix(sum: u32, v: u32) -> u32 {
+    ((sum as u64 * 16777619 + v as u64) % 4294967296) as u32
+}
+
+pub fn mix_all(sum: u32, words: &[u32]) -> u32 {
+    let mut s = sum;
+    for i in 0..words.len() {
+        s = mix(s, words[i]);
+    }
+    s
+}
+
+pub fn counted(counts: [u32; 6], number: u32) -> [u32; 6] {
+    let mut next = counts;
+    let i = (number % 6) as usize;
+    next[i] = std::num::wrapping_add_u32(next[i], 1);
+    next
+}
+
+// An answer, and everything in the room for its output.
+pub fn noted(t: Tally, a: Answer, out: &[u32]) -> Tally {
+    let before = t.counts;
+    let counts = counted(before, a.number);
+    let sum = mix_all(mix(mix(t.sum, a.number), low(a.used)), out);
+    Tally {
+        counts,
+        sum,
+        used: a.used,
+    }
+}
