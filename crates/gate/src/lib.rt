@@ -35,12 +35,10 @@ pub fn width_bound(k: u32) -> u32
 fn all_below(shares: &[u32], m: u32) -> bool
     ensures { λ r. ⌜ r ≡ allBelow m (now (shares .entry)) ⌝ }
 {
-    let mut i = 0;
-    while i < shares.len() {
+    for i in 0..shares.len() {
         if m <= shares[i] {
             return false;
         }
-        i += 1;
     }
     true
 }

@@ -8,8 +8,8 @@ use Rattle.shares.specs.Refresh.{refresh}
 use Rattle.shares.proofs.ArraysLaws.{held-at, whole, cut-off}
 use Rattle.shares.proofs.TurnLaws.{Left, left-start, left-none, left-ended, left-draw, left-first, left-more}
 use Rattle.shares.specs.Sharing.{arithmetic}
-use Rattle.shares.proofs.refresh.Statement.{statement}
-use Rattle.shares.proofs.refresh.Tie as tie
+use Rattle.shares.proofs.arithmetic.refresh.Statement.{statement}
+use Rattle.shares.proofs.arithmetic.refresh.Tie as tie
 
 abbrev Inv-loop : tie.InvT-loop
 Inv-loop n m tape words₀ cur₀ last i₀ words cur i = Left (arithmetic m) 8 n tape (run (refresh (arithmetic m) (take n words₀)) tape cur₀) i words cur

@@ -12,8 +12,8 @@ use Rattle.shares.specs.Sharing.{boolean}
 use Rattle.shares.specs.Refresh.{refresh}
 use Rattle.shares.proofs.ArraysLaws.{whole, cut-off}
 use Rattle.shares.proofs.TurnLaws.{Left, left-start, left-none, left-ended, left-more}
-use Rattle.shares.proofs.refresh_boolean.Statement.{statement}
-use Rattle.shares.proofs.refresh_boolean.Tie as tie
+use Rattle.shares.proofs.boolean.refresh_boolean.Statement.{statement}
+use Rattle.shares.proofs.boolean.refresh_boolean.Tie as tie
 
 abbrev Inv-loop : tie.InvT-loop
 Inv-loop n k tape m words₀ cur₀ last i₀ words cur i = Left (boolean k) 8 n tape (run (refresh (boolean k) (take n words₀)) tape cur₀) i words cur

@@ -1,0 +1,38 @@
+// Boolean refresh of width k.
+use super::Shared;
+use tape::Cursor;
+use tape::Draw;
+use words::power;
+ghost use Prim.Native.Nat.{_^_, _≤_};
+ghost use lib.ListN.{take};
+ghost use Rattle.draws.specs.Draws.{run};
+ghost use Rattle.shares.specs.Sharing.{boolean};
+ghost use Rattle.shares.specs.Refresh.{refresh};
+ghost use Rattle.shares.specs.Arrays.{Held, Gave};
+
+pub fn refresh_boolean(shares: [u32; 8], n: usize, k: u32, cursor: Cursor, tape: &[u32]) -> Shared
+    requires { ⌜ (k ≤ 31) × Held 8 n (2 ^ k) shares ⌝ }
+    ensures { λ r. ⌜ Gave n (2 ^ k) r (run (refresh (boolean k) (take n shares)) (now (tape .entry)) cursor) ⌝ }
+{
+    let m = power(k);
+    let mut words = shares;
+    let mut cur = cursor;
+    let last = n - 1;
+    for i in 0..last {
+        let Draw::Got(r, next) = cur.draw(tape, m) else {
+            return Shared {
+                words,
+                cursor: cur,
+                ok: false,
+            };
+        };
+        words[i] = words[i] ^ r;
+        words[last] = words[last] ^ r;
+        cur = next;
+    }
+    Shared {
+        words,
+        cursor: cur,
+        ok: true,
+    }
+}
