@@ -1,24 +1,17 @@
--- Both refreshes meet the three demands, and their answers are unique.
-use mathlib.Core.Path.{_≡_, refl}
-use mathlib.Core.List.{List, []}
-use Prim.Native.Nat.{ℕ, _^_, _≤_, _<_}
+-- Both refreshes meet the three demands.
+use mathlib.Core.Path.{refl}
+use Prim.Native.Nat.{ℕ}
 use native.Mathlib.Omega.{arith}
 use lib.Pow.{pow-pos, pow-mono}
-use Rattle.numbers.specs.Lists.{Words}
-use Rattle.draws.specs.Draws.{done, bind}
-use Rattle.draws.specs.Plan.{Gives}
+use Rattle.draws.specs.Draws.{bind}
 use Rattle.draws.proofs.PlanLaws.{gives-done}
-use Rattle.shares.specs.Sharing.{bound}
-use Rattle.gate.specs.Told.{toldBy, silent}
-use Rattle.gate.specs.Gadget.{Gadget, quiet, tells}
+use Rattle.gate.specs.Gadget.{quiet}
 use Rattle.gate.proofs.CheckLaws.{inside-yes, inside-out}
 use Rattle.gadgets.specs.Refresh.{refreshGadget, booleanGadget}
 use Rattle.demands.specs.Demands.{Demands}
-use Rattle.demands.specs.Unique.{Unique}
 use Rattle.demands.specs.Refresh.{refreshClaim, booleanClaim}
-use Rattle.demands.proofs.Steps.{Claimed, Steps}
+use Rattle.demands.proofs.Steps.{Steps}
 use Rattle.demands.proofs.Demands.{demands}
-use Rattle.demands.proofs.Unique.{unique}
 
 refresh-steps : (M : ℕ) → Steps (refreshClaim M)
 unfolding refreshGadget quiet bind
@@ -47,9 +40,3 @@ refresh-demands M = demands (refresh-steps M)
 
 pub boolean-demands : (k : ℕ) → Demands (booleanClaim k)
 boolean-demands k = demands (boolean-steps k)
-
-pub refresh-unique : (M : ℕ) (shares tape out : List ℕ) → Unique toldBy (tells (refreshGadget M) shares tape out)
-refresh-unique M shares tape out = unique (tells (refreshGadget M) shares tape out)
-
-pub boolean-unique : (k : ℕ) (shares tape out : List ℕ) → Unique toldBy (tells (booleanGadget k) shares tape out)
-boolean-unique k shares tape out = unique (tells (booleanGadget k) shares tape out)

@@ -2,26 +2,20 @@
 use mathlib.Core.Path.{_≡_, refl, sym, ap, _∙_}
 use mathlib.Core.Bool.{Bool, true, false}
 use mathlib.Core.List.{List}
-use Prim.Native.Nat.{ℕ, _≤_}
+use Prim.Native.Nat.{ℕ}
 use native.Mathlib.Omega.{arith}
-use native.Mathlib.Decide.{decLe}
 use lib.ListN.{length}
-use Rattle.numbers.specs.Lists.{Words}
-use Rattle.tape.specs.declared.Cursor.{Cursor}
-use Rattle.tape.specs.Tape.{ended, ran, start}
-use Rattle.draws.specs.Draws.{run}
-use Rattle.draws.specs.Plan.{drawAll}
+use Rattle.tape.specs.Tape.{start}
 use Rattle.draws.proofs.PlanLaws.{planned-ran, planned-ended}
-use Rattle.shares.specs.Sharing.{bound}
-use Rattle.gate.specs.Checks.{inside, allBelow}
+use Rattle.gate.specs.Checks.{inside}
 use Rattle.gate.specs.Told.{Told, refusal}
-use Rattle.gate.specs.Gadget.{Gadget, fails, tells}
+use Rattle.gate.specs.Gadget.{fails, tells}
 use Rattle.gate.proofs.CheckLaws.{fails-1, fails-2, fails-3, fails-4, inside-yes, inside-out, below-words}
 use Rattle.gate.proofs.GadgetLaws.{tells-refused}
-use Rattle.demands.specs.Claim.{Claim, Counted, Valid, plan}
+use Rattle.demands.specs.Claim.{Claim, Counted, plan}
 use Rattle.demands.specs.Refusals.{Refused, Refusals}
 use Rattle.demands.proofs.Steps.{Steps}
-use Rattle.demands.proofs.Runs.{valid-passes, valid-gives, tells-success, tells-short, Succeeded, Ending, succeeds, refuses, ending}
+use Rattle.demands.proofs.Runs.{valid-passes, valid-gives, tells-success, tells-short, Ending, succeeds, refuses, ending}
 
 -- a test that is not true is false
 not-so : (b : Bool) → ¬ (b ≡ true) → b ≡ false

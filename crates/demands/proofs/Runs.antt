@@ -1,8 +1,7 @@
 -- From what a gadget tells to the run of its steps, and back.
-use mathlib.Core.Path.{_≡_, refl, sym, ap, subst, _∙_}
-use mathlib.Core.Bool.{true}
+use mathlib.Core.Path.{_≡_, refl, sym, ap, _∙_}
 use mathlib.Core.List.{List}
-use Prim.Native.Nat.{ℕ, _≤_}
+use Prim.Native.Nat.{ℕ}
 use native.Mathlib.Omega.{arith}
 use native.Mathlib.Decide.{ℕ-discrete}
 use lib.ListN.{length}
@@ -12,8 +11,8 @@ use Rattle.draws.specs.Draws.{Draws, run}
 use Rattle.draws.specs.Plan.{Gives}
 use Rattle.shares.specs.Sharing.{bound}
 use Rattle.gate.specs.Told.{Told, refusal, Outcome, told}
-use Rattle.gate.specs.Gadget.{Gadget, closed, fails, tells}
-use Rattle.gate.proofs.CheckLaws.{Passed, passed, fails-none, inside-yes, words-below}
+use Rattle.gate.specs.Gadget.{closed, fails, tells}
+use Rattle.gate.proofs.CheckLaws.{passed, fails-none, inside-yes, words-below}
 use Rattle.gate.proofs.GadgetLaws.{tells-passed, tells-refused}
 use Rattle.demands.specs.Claim.{Claim, Valid, plan}
 use Rattle.demands.proofs.Steps.{Claimed, Steps, closed-give}

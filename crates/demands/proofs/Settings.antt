@@ -5,9 +5,8 @@ use mathlib.Core.List.{List, _++_}
 use Prim.Native.Nat.{ℕ, _-_, _<_}
 use lib.ListN.{length}
 use Rattle.numbers.specs.Lists.{Words}
-use Rattle.tape.specs.declared.Cursor.{Cursor}
 use Rattle.tape.specs.Tape.{ran, start}
-use Rattle.draws.specs.Draws.{Draws, done, bind, run}
+use Rattle.draws.specs.Draws.{Draws, done, bind}
 use Rattle.draws.specs.Plan.{Gives, feed, Fits, places}
 use Rattle.draws.specs.Anew.{merged, Marks, marksAfter, ExactlyOne}
 use Rattle.draws.proofs.PlanLaws.{Reads, reads-fit, planned-parts, always-run, always-feed, feed-bind, feed-map, FitBoth, fits-split}
@@ -18,7 +17,7 @@ use Rattle.shares.specs.Refresh.{refresh, refreshPlan}
 use Rattle.shares.specs.Closing.{closingMarks, SameBut}
 use Rattle.shares.proofs.SettingLaws.{closing-marks, refresh-closes}
 use Rattle.gate.specs.Told.{Told, Outcome}
-use Rattle.gate.specs.Gadget.{Gadget, closed, fails, tells}
+use Rattle.gate.specs.Gadget.{closed, tells}
 use Rattle.demands.specs.Claim.{Claim, Valid, plan}
 use Rattle.demands.specs.Settings.{SameTold, closingPlaces, closingAnew, OneSetting, Settings}
 use Rattle.demands.proofs.Steps.{Claimed, Steps}

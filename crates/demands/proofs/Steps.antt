@@ -5,14 +5,13 @@ use mathlib.Core.List.{List}
 use Prim.Native.Nat.{ℕ, _^_, _≤_, _<_}
 use native.Mathlib.Omega.{arith}
 use Rattle.numbers.specs.Lists.{Words}
-use Rattle.draws.specs.Draws.{Draws, done, bind}
 use Rattle.draws.specs.Plan.{Gives}
 use Rattle.draws.proofs.PlanLaws.{gives-bind, gives-map}
 use Rattle.shares.specs.Sharing.{Sharing, bound, value}
-use Rattle.shares.specs.Refresh.{refresh, refreshPlan}
+use Rattle.shares.specs.Refresh.{refreshPlan}
 use Rattle.shares.proofs.RefreshLaws.{refresh-keeps}
 use Rattle.gate.specs.Told.{Outcome}
-use Rattle.gate.specs.Gadget.{Gadget, closed}
+use Rattle.gate.specs.Gadget.{closed}
 use Rattle.demands.specs.Claim.{Claim, plan}
 
 -- an outcome of n shares, of steps on the shares xs, that is as claimed

@@ -2,8 +2,8 @@
 use mathlib.Core.Path.{_≡_, refl, sym, ap, _∙_}
 use mathlib.Core.List.{List}
 use Prim.Native.Nat.{ℕ}
-use Rattle.gate.specs.declared.Answer.{Answer}
 use Rattle.gate.specs.Told.{Told, toldBy}
+use Rattle.gate.specs.Gadget.{Gadget, tells}
 use Rattle.demands.specs.Unique.{Unique}
 
 -- two answers that stand for the same are the same, if what they stand for shows the answer and the output slice
@@ -11,7 +11,8 @@ pub unique-by : {R : Type 0} (stands : R → List ℕ → Told) (answer : Told �
     ((r : R) (out : List ℕ) → answer (stands r out) ≡ r) → ((r : R) (out : List ℕ) → slice (stands r out) ≡ out) → (t : Told) → Unique stands t
 unique-by stands answer slice f g t r s out filled e h = (sym (f r out) ∙ ap answer (e ∙ sym h) ∙ f s filled, sym (g r out) ∙ ap slice (e ∙ sym h) ∙ g s filled)
 
--- so for every answer with a number and words used
-pub unique : (t : Told) → Unique toldBy t
+-- so the answer of every gadget that answers a number and words used, and leaves its shares in the output slice
+pub unique : (g : Gadget) (shares tape out : List ℕ) → Unique toldBy (tells g shares tape out)
 unfolding toldBy
-unique = unique-by toldBy (λ t. record { number = t .number; used = t .used }) (λ t. t .out) (λ r out. refl) (λ r out. refl)
+unique g shares tape out =
+    unique-by toldBy (λ t. record { number = t .number; used = t .used }) (λ t. t .out) (λ r filled. refl) (λ r filled. refl) (tells g shares tape out)

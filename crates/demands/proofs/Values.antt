@@ -1,14 +1,10 @@
 -- Demand 2, of every gadget that turns shares into shares.
-use mathlib.Core.Path.{_≡_, sym, ap, subst, _∙_}
+use mathlib.Core.Path.{sym, subst}
 use mathlib.Core.List.{List}
-use Prim.Native.Nat.{ℕ, _+_}
+use Prim.Native.Nat.{ℕ}
 use native.Mathlib.Omega.{arith}
-use lib.ListN.{length}
 use Rattle.tape.specs.Tape.{start}
-use Rattle.draws.specs.Plan.{skipped}
-use Rattle.draws.specs.Anew.{Same}
 use Rattle.draws.proofs.PlanLaws.{always-run, words-used, run-reads}
-use Rattle.gate.specs.Gadget.{Gadget, tells}
 use Rattle.demands.specs.Claim.{Claim, plan}
 use Rattle.demands.specs.Values.{Right, Values}
 use Rattle.demands.proofs.Steps.{Steps}

@@ -2,8 +2,8 @@
 -- makes a second input give the same other shares, opened numbers and count of words used.
 use mathlib.Core.Path.{_≡_}
 use mathlib.Core.List.{List}
-use Prim.Native.Nat.{ℕ, _-_, _^_, _<_}
-use lib.ListN.{length, getD}
+use Prim.Native.Nat.{ℕ, _-_, _<_}
+use lib.ListN.{length}
 use Rattle.numbers.specs.Lists.{Words}
 use Rattle.tape.specs.Tape.{start}
 use Rattle.draws.specs.Plan.{places}

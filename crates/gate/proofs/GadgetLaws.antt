@@ -9,7 +9,7 @@ use borrow.Author.Tests.{eq-eqb, ne-eqb}
 use Rattle.tape.specs.declared.Cursor.{Cursor}
 use Rattle.tape.specs.Tape.{Ran, ended, ran, start}
 use Rattle.draws.specs.Draws.{Draws, done, bind, after, next, run}
-use Rattle.draws.proofs.RunLaws.{bind-assoc, run-bind, run-done}
+use Rattle.draws.proofs.RunLaws.{bind-assoc, run-bind}
 use Rattle.shares.specs.Sharing.{Sharing, bound}
 use Rattle.shares.specs.Refresh.{refresh}
 use Rattle.shares.specs.declared.Shared.{Shared}

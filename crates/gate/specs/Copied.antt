@@ -2,7 +2,7 @@
 use mathlib.Core.Path.{_≡_}
 use mathlib.Core.List.{List}
 use Prim.Native.Nat.{ℕ, _<_}
-use lib.ListN.{length, getD, take}
+use lib.ListN.{length, take}
 use Rattle.numbers.specs.Lists.{Words}
 
 -- the array begins with the slice's words, and what follows is below whatever they are below

@@ -1,12 +1,11 @@
 -- Laws of the numbers of bits L and α: each is the smallest number of bits that holds every number below M, or below n.
-use mathlib.Core.Path.{_≡_, subst}
+use mathlib.Core.Path.{_≡_}
 use Prim.Native.Nat.{ℕ, zero, suc, _+_, _-_, _*_, _^_, _≤_, _<_}
 use native.Mathlib.Nat.{le-antisymm, pow-suc}
 use native.Mathlib.Omega.{arith}
 use native.Mathlib.Decide.{decLe, ℕ-discrete}
 use lib.Count.{leadingZeros, leading-length}
 use lib.Pow.{pow-mono}
-use lib.Dec.{leb}
 use borrow.Author.Tests.{le-leb, lt-leb}
 use Rattle.numbers.specs.Bits.{bitsOf, powerFrom, alpha}
 

@@ -1,5 +1,5 @@
 -- Laws of words put together: sums modulo M and exclusive or alike, over any group of words below M.
-use mathlib.Core.Path.{_≡_, refl, sym, ap, ap₂, _∙_}
+use mathlib.Core.Path.{_≡_, sym, ap, ap₂, _∙_}
 use mathlib.Core.List.{List, [], _∷_}
 use Prim.Native.Nat.{ℕ, zero, suc, _+_, _%_, _<_}
 use native.Mathlib.Nat.{le-of-suc-le-suc, add-mod-mod, mod-eq-of-lt}

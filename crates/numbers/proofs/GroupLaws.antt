@@ -1,6 +1,6 @@
 -- Words below M that can be added and taken away, and the two instances: sums modulo M, and exclusive or on k bits.
 use mathlib.Core.Path.{_≡_, sym, ap, _∙_}
-use Prim.Native.Nat.{ℕ, _+_, _-_, _%_, _^_, _≤_, _<_}
+use Prim.Native.Nat.{ℕ, _+_, _-_, _%_, _^_, _<_}
 use native.Mathlib.Nat.{mod-lt, mod-eq-of-lt, mod-add-mod, add-mod-mod, add-comm, add-assoc, add-zero}
 use native.Mathlib.Omega.{arith}
 use lib.Pow.{pow-pos}

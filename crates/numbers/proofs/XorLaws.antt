@@ -4,7 +4,7 @@ use Prim.Native.Nat.{ℕ, zero, suc, _+_, _/_, _%_, _^_, _<_}
 use native.Mathlib.Omega.{arith}
 use lib.Arith.{bin-ind}
 use lib.Bits as Bits
-use lib.Bits.{bitXor, differ}
+use lib.Bits.{differ}
 use Rattle.numbers.specs.Modulo.{xor}
 use Rattle.numbers.proofs.Cong.{Cong, cong-eq, cong-add, cong-refl, cong-sym, via, _⨾_}
 

@@ -1,5 +1,5 @@
 -- The refresh keeps the value, its words stay below the bound, and it makes n - 1 draws: over any n, M and k.
-use mathlib.Core.Path.{_≡_, refl, sym, ap, subst, _∙_}
+use mathlib.Core.Path.{_≡_, refl, sym, subst, _∙_}
 use mathlib.Core.List.{List}
 use Prim.Native.Nat.{ℕ, zero, suc, _+_, _-_, _≤_, _<_}
 use native.Mathlib.Nat.{sub-zero}
@@ -7,7 +7,7 @@ use native.Mathlib.Omega.{arith}
 use lib.ListN.{length, getD, replicate}
 use Rattle.numbers.specs.Lists.{Words, fold, change}
 use Rattle.numbers.proofs.GroupLaws.{Group, add-cancel}
-use Rattle.numbers.proofs.WordsLaws.{words-at, words-change, length-change}
+use Rattle.numbers.proofs.WordsLaws.{words-at, words-change}
 use Rattle.numbers.proofs.FoldLaws.{fold-below, fold-add, fold-sub}
 use Rattle.draws.specs.Draws.{bind, turns, each}
 use Rattle.draws.specs.Plan.{Gives}

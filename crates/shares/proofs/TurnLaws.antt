@@ -1,12 +1,11 @@
 -- Laws of the turns of a refresh that are left: what the loops of both refreshes go by.
-use mathlib.Core.Path.{_≡_, refl, sym, ap, _∙_}
+use mathlib.Core.Path.{_≡_, sym, ap, _∙_}
 use mathlib.Core.List.{List}
 use Prim.Native.Nat.{ℕ, _+_, _-_, _≤_, _<_}
 use native.Mathlib.Omega.{arith}
 use lib.ListN.{length, getD, set, take}
 use lib.Seq.{length-take-le}
 use Rattle.numbers.specs.Lists.{change}
-use Rattle.numbers.proofs.GroupLaws.{Group}
 use Rattle.numbers.proofs.WordsLaws.{take-change, set-change}
 use Rattle.tape.specs.declared.Cursor.{Cursor}
 use Rattle.tape.specs.declared.Draw.{Draw}

@@ -1,5 +1,5 @@
 use borrow.Author.Needs.{needs}
-use mathlib.Core.Path.{refl, sym, _∙_}
+use mathlib.Core.Path.{refl, _∙_}
 use Rattle.shares.proofs.ArraysLaws.{shared-whole, shared-none}
 use Rattle.gate.proofs.GadgetLaws.{told-ended, told-ran}
 use Rattle.gate.proofs.finish.Statement.{statement}

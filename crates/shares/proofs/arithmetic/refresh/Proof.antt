@@ -1,7 +1,6 @@
 use borrow.Author.Needs.{needs}
 use mathlib.Core.Path.{refl}
 use Prim.Native.Nat.{_-_}
-use native.Mathlib.Omega.{arith}
 use lib.ListN.{take}
 use Rattle.draws.specs.Draws.{run}
 use Rattle.shares.specs.Refresh.{refresh}
