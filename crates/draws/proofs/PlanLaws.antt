@@ -61,15 +61,6 @@ always-as g (whatever h) = whatever (λ r l. always-as g (h r l))
 pub gives-as : {A : Type 0} {P Q : A → Type 0} {d : Draws A} {ms : List ℕ} → ((a : A) → P a → Q a) → Gives P d ms → Gives Q d ms
 gives-as g h = record { plan = h .plan; always = always-as g (h .always) }
 
--- two things that always hold, both hold
-pub always-both : {A : Type 0} {P Q R : A → Type 0} {d : Draws A} → ((a : A) → P a → Q a → R a) → Always P d → Always Q d → Always R d
-always-both g (holds {a = a} h) (holds k) = holds (g a h k)
-always-both g (whatever h) (whatever k) = whatever (λ r l. always-both g (h r l) (k r l))
-
--- what is known of a planned program's outcomes, and what else always holds of them
-pub gives-with : {A : Type 0} {P Q R : A → Type 0} {d : Draws A} {ms : List ℕ} → ((a : A) → P a → Q a → R a) → Gives P d ms → Always Q d → Gives R d ms
-gives-with g h k = record { plan = h .plan; always = always-both g (h .always) k }
-
 -- what always holds, holds of what a run gives
 pub always-run : {A : Type 0} {P : A → Type 0} {d : Draws A} → Always P d → (tape : List ℕ) (p : Cursor) {a : A} {q : Cursor} → run d tape p ≡ ran a q → P a
 unfolding run

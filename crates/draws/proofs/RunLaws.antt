@@ -8,20 +8,7 @@ use Rattle.tape.specs.declared.Cursor.{Cursor}
 use Rattle.tape.specs.Tape.{Ran, ended, ran, drawAt}
 use Rattle.draws.specs.Draws.{Draws, done, draw, after, next, run, bind, turns, each}
 
--- bind: a value changes nothing on either side, and the grouping does not matter
-pub bind-done : {A B : Type 0} (a : A) (f : A → Draws B) → bind (done a) f ≡ f a
-unfolding bind
-bind-done a f = refl
-
-pub bind-draw : {A B : Type 0} (M : ℕ) (k : ℕ → Draws A) (f : A → Draws B) → bind (draw M k) f ≡ draw M (λ r. bind (k r) f)
-unfolding bind
-bind-draw M k f = refl
-
-pub done-bind : {A : Type 0} (d : Draws A) → bind d done ≡ d
-unfolding bind
-done-bind (done a) = refl
-done-bind (draw M k) = ap (draw M) (fun-ext (λ r. done-bind (k r)))
-
+-- one after another after another: the grouping does not matter
 pub bind-assoc : {A B C : Type 0} (d : Draws A) (f : A → Draws B) (g : B → Draws C) → bind (bind d f) g ≡ bind d (λ a. bind (f a) g)
 unfolding bind
 bind-assoc (done a) f g = refl

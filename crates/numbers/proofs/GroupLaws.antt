@@ -66,33 +66,9 @@ module _ {M : ℕ} {add sub : ℕ → ℕ → ℕ} (G : Group M add sub) where
   pub add-sub : (a b : ℕ) → a < M → b < M → sub (add a b) b ≡ a
   add-sub a b ha hb = add-cancel (sub (add a b) b) a b (sub-below (add a b) b (add-below a b ha hb) hb) ha hb (sub-add (add a b) b (add-below a b ha hb) hb)
 
-  pub sub-zero : (a : ℕ) → a < M → sub a 0 ≡ a
-  sub-zero a ha = add-cancel (sub a 0) a 0 (sub-below a 0 ha positive) ha positive (sub-add a 0 ha positive ∙ sym (zero a ha))
-
-  -- the order of taking away does not matter
-  pub sub-swap : (a b c : ℕ) → a < M → b < M → c < M → sub (sub a b) c ≡ sub (sub a c) b
-  sub-swap a b c ha hb hc =
-      add-cancel (sub (sub a b) c) (sub (sub a c) b) c (sub-below (sub a b) c ab hc) (sub-below (sub a c) b ac hb) hc
-      (add-cancel (add (sub (sub a b) c) c) (add (sub (sub a c) b) c) b
-      (add-below (sub (sub a b) c) c (sub-below (sub a b) c ab hc) hc) (add-below (sub (sub a c) b) c (sub-below (sub a c) b ac hb) hc) hb
-      (ap (λ (x : ℕ). add x b) (sub-add (sub a b) c ab hc) ∙ sub-add a b ha hb
-      ∙ sym (add-swap (sub (sub a c) b) c b ∙ ap (λ (x : ℕ). add x c) (sub-add (sub a c) b ac hb) ∙ sub-add a c ha hc)))
-    where
-      ab : sub a b < M
-      ab = sub-below a b ha hb
-
-      ac : sub a c < M
-      ac = sub-below a c ha hc
-
-  -- exactly one number added to a gives c, and exactly one taken from a does
+  -- exactly one number added to a gives c
   pub add-solves : (a c : ℕ) → a < M → c < M → add a (sub c a) ≡ c
   add-solves a c ha hc = comm a (sub c a) ∙ sub-add c a hc ha
 
   pub add-only : (a b c : ℕ) → a < M → b < M → add a b ≡ c → b ≡ sub c a
   add-only a b c ha hb e = sym (add-sub b a hb ha) ∙ ap (λ (x : ℕ). sub x a) (comm b a ∙ e)
-
-  pub sub-only : (a b c : ℕ) → a < M → b < M → c < M → sub a b ≡ c → b ≡ sub a c
-  sub-only a b c ha hb hc e = add-only c b a hc hb (ap (λ (x : ℕ). add x b) (sym e) ∙ sub-add a b ha hb)
-
-  pub sub-solves : (a c : ℕ) → a < M → c < M → sub a (sub a c) ≡ c
-  sub-solves a c ha hc = ap (λ (x : ℕ). sub x (sub a c)) (sym (add-solves c a hc ha)) ∙ add-sub c (sub a c) hc (sub-below a c ha hc)

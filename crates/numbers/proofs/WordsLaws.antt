@@ -1,12 +1,12 @@
 -- Laws of lists of words below M.
 use mathlib.Core.Path.{_≡_, refl, sym, ap, _∙_}
 use mathlib.Core.List.{List, [], _∷_}
-use Prim.Native.Nat.{ℕ, zero, suc, _≤_, _<_, suc-le-suc}
+use Prim.Native.Nat.{ℕ, zero, suc, _<_, suc-le-suc}
 use native.Mathlib.Nat.{le-of-suc-le-suc}
 use native.Mathlib.Omega.{arith}
 use native.Mathlib.Decide.{decLt, ℕ-discrete}
 use lib.ListN.{length, getD, set, take, replicate, length-set, length-replicate, getD-replicate, List·getD-eq-default}
-use lib.Seq.{getD-set-same, getD-set-other, length-take-le, getD-take, take-set-lt}
+use lib.Seq.{getD-set-same, getD-set-other, getD-take, take-set-lt}
 use Rattle.numbers.specs.Lists.{Words, change}
 
 pub words-head : {k M x : ℕ} {xs : List ℕ} → Words (suc k) M (x ∷ xs) → x < M
@@ -29,10 +29,6 @@ words-set {n} {M} {xs} w i {v} h = record { size = length-set xs i v ∙ w .size
     go : (j : ℕ) → j < n → Dec (j ≡ i) → getD (set xs i v) j 0 < M
     go j l (yes e) = let x : getD (set xs i v) i 0 ≡ v = getD-set-same xs i v 0 (omega (arith, w .size)) in rw (e, x) h
     go j l (no e) = rw (getD-set-other xs i j v 0 e) (w .below j l)
-
-pub words-take : {m M : ℕ} {xs : List ℕ} (n : ℕ) → n ≤ m → Words m M xs → Words n M (take n xs)
-words-take {xs = xs} n h w =
-    record { size = length-take-le n xs (omega (arith, w .size)); below = λ i l. rw (getD-take n xs i 0 l) (w .below i (omega arith)) }
 
 pub words-same : {n M v : ℕ} → v < M → Words n M (replicate n v)
 words-same {n} {v = v} h = record { size = length-replicate n v; below = λ i l. rw (getD-replicate n i v 0 l) h }

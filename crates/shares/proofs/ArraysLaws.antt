@@ -7,7 +7,7 @@ use native.Mathlib.Omega.{arith}
 use lib.ListN.{getD, take, set}
 use borrow.Author.Tests.{not-true, not-false}
 use Rattle.numbers.specs.Lists.{Words}
-use Rattle.numbers.proofs.WordsLaws.{words-at, words-set, words-take}
+use Rattle.numbers.proofs.WordsLaws.{words-at, words-set}
 use Rattle.tape.specs.Tape.{Ran, ended, ran}
 use Rattle.shares.specs.declared.Shared.{Shared}
 use Rattle.shares.specs.Arrays.{Held, shared, Gave}
@@ -23,10 +23,6 @@ module _ {size n M : ℕ} {words : List ℕ} (a : Held size n M words) where
   -- a word below M stored
   pub held-set : (i : ℕ) {v : ℕ} → v < M → Held size n M (set words i v)
   held-set i h = held-of (words-set (a .all) i h)
-
-  -- the n shares
-  pub held-shares : Words n M (take n words)
-  held-shares = words-take n (a .most) (a .all)
 
 -- what an answer stands for, where it was found to be whole, and where not
 module _ (n : ℕ) (r : Shared) where

@@ -24,7 +24,6 @@ use Rattle.shares.proofs.ArraysLaws.{held-at, held-set}
 
 -- at turn i of a refresh of n shares that began as x: what is left to do gives the same as the whole
 pub record Left (s : Sharing) (size n : ℕ) (tape : List ℕ) (x : Ran (List ℕ)) (i : ℕ) (words : List ℕ) (p : Cursor) : Type 0 where
-  pub within : i ≤ n - 1
   pub held : Held size n (bound s) words
   pub same : run (each (turn s (n - 1)) i (n - 1) (take n words)) tape p ≡ x
 
@@ -33,7 +32,6 @@ unfolding refresh
 left-start s size n words tape p h =
     let e : length (take n words) ≡ n = length-take-le n words (omega (arith, h .most, h .all .size)) in
     record {
-      within = omega arith;
       held = h;
       same = sym (ap (λ (k : ℕ). run (each (turn s (k - 1)) 0 (k - 1) (take n words)) tape p) e);
     }
@@ -73,8 +71,7 @@ module _ {s : Sharing} {size n : ℕ} {tape : List ℕ} {x : Ran (List ℕ)} {i 
           let t : y ≡ stir s (n - 1) i r words =
           set-change (λ y. minus s y r) (n - 1) (set words i v) w o ∙ ap (change (λ y. minus s y r) (n - 1)) (set-change (λ y. plus s y r) i words v f) in
           record {
-            within = omega arith;
-            held = held-set b (n - 1) (rw o (g .sub-below (getD (set words i v) (n - 1) 0) r (held-at b (n - 1)) left-draw));
+                  held = held-set b (n - 1) (rw o (g .sub-below (getD (set words i v) (n - 1) 0) r (held-at b (n - 1)) left-draw));
             same =
                 sym (each-more (turn s (n - 1)) i (n - 1) (take n words) tape p h (take n y) c
                 (run-draw (bound s) _ tape p r c (got d told e) ∙ run-done _ tape c ∙ ap (λ (l : List ℕ). ran l c) (sym (ap (take n) t ∙ stir-take))))

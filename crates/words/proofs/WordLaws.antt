@@ -1,7 +1,7 @@
 -- What one comparison and one subtraction give, on words below m; and a shifted 1.
 use mathlib.Core.Path.{_≡_, sym, ap, subst, _∙_}
 use Prim.Native.Nat.{ℕ, _+_, _-_, _*_, _%_, _^_, _≤_, _<_}
-use native.Mathlib.Nat.{mod-lt, mod-eq-of-lt, add-mod-right, one-mul, zero-add}
+use native.Mathlib.Nat.{mod-eq-of-lt, add-mod-right, one-mul, zero-add}
 use native.Mathlib.Numerals.{one-add}
 use native.Mathlib.Omega.{arith}
 use lib.Dec.{lit<}
@@ -36,15 +36,6 @@ neg-none m a h e = rw e (sub-low {m = m} {a = 0} {b = 0} (omega arith) (omega ar
 pub neg-some : {m a : ℕ} → a < m → 0 < a → m - a ≡ negMod m a
 unfolding negMod
 neg-some {m} {a} h k = sym (zero-add (m - a)) ∙ sub-high (omega arith) h k
-
--- a sum and a difference are below their modulus, whatever they are of
-pub add-below : {m r : ℕ} (a b : ℕ) → 0 < m → r ≡ addMod m a b → r < m
-unfolding addMod
-add-below a b h e = rw e (mod-lt (a + b) h)
-
-pub sub-below : {m r : ℕ} (a b : ℕ) → 0 < m → r ≡ subMod m a b → r < m
-unfolding subMod
-sub-below {m} a b h e = rw e (mod-lt (a + (m - b % m)) h)
 
 -- `1 << k` at w bits, which the machine has as a product cut to w bits, is 2 ^ k
 pub one-shl : (w k : ℕ) → k < w → 1 * 2 ^ k % 2 ^ w ≡ 2 ^ k
