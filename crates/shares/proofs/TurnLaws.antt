@@ -71,7 +71,7 @@ module _ {s : Sharing} {size n : ℕ} {tape : List ℕ} {x : Ran (List ℕ)} {i 
           let t : y ≡ stir s (n - 1) i r words =
           set-change (λ y. minus s y r) (n - 1) (set words i v) w o ∙ ap (change (λ y. minus s y r) (n - 1)) (set-change (λ y. plus s y r) i words v f) in
           record {
-                  held = held-set b (n - 1) (rw o (g .sub-below (getD (set words i v) (n - 1) 0) r (held-at b (n - 1)) left-draw));
+            held = held-set b (n - 1) (rw o (g .sub-below (getD (set words i v) (n - 1) 0) r (held-at b (n - 1)) left-draw));
             same =
                 sym (each-more (turn s (n - 1)) i (n - 1) (take n words) tape p h (take n y) c
                 (run-draw (bound s) _ tape p r c (got d told e) ∙ run-done _ tape c ∙ ap (λ (l : List ℕ). ran l c) (sym (ap (take n) t ∙ stir-take))))

@@ -21,7 +21,13 @@ pub struct Gadget {
 
 pub const GADGETS: [Gadget; 2] = [
     Gadget { id: 1, name: "refresh", parameter: modulus, bound: |m| m, call: library::refresh },
-    Gadget { id: 2, name: "refresh_boolean", parameter: width, bound: |k| 1 << (k % 32), call: library::refresh_boolean },
+    Gadget {
+        id: 2,
+        name: "refresh_boolean",
+        parameter: width,
+        bound: |k| 1 << (k % 32),
+        call: library::refresh_boolean,
+    },
 ];
 
 pub fn mix(sum: u32, v: u32) -> u32 {
