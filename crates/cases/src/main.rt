@@ -20,7 +20,7 @@ fn number(x: u32) {
 fn draw_below_q(a: u32, b: u32) {
     let tape = [a, b];
     text(b"draw");
-    let Draw::Got(r, c) = Cursor::start().draw(&tape, Q as u32) else {
+    let Draw::Got(r, c) = Cursor::start().draw(&tape, Q) else {
         text(b" ended\n");
         return;
     };

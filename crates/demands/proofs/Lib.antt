@@ -7,3 +7,4 @@ pub mod Demands
 pub mod Unique
 pub mod Refresh
 pub mod Cases
+pub mod Worked

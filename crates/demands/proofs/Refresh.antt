@@ -5,7 +5,7 @@ use native.Mathlib.Omega.{arith}
 use lib.Pow.{pow-pos, pow-mono}
 use Rattle.draws.specs.Draws.{bind}
 use Rattle.draws.proofs.PlanLaws.{gives-done}
-use Rattle.gate.specs.Gadget.{quiet}
+use Rattle.gate.specs.Gadget.{silentSteps}
 use Rattle.gate.proofs.CheckLaws.{inside-yes, inside-out}
 use Rattle.gadgets.specs.Refresh.{refreshGadget, booleanGadget}
 use Rattle.demands.specs.Demands.{Demands}
@@ -14,7 +14,7 @@ use Rattle.demands.proofs.Steps.{Steps}
 use Rattle.demands.proofs.Demands.{demands}
 
 refresh-steps : (M : ℕ) → Steps (refreshClaim M)
-unfolding refreshGadget quiet bind
+unfolding refreshGadget silentSteps bind
 refresh-steps M =
     record {
       in-range = inside-out 2 4294967295 M;
@@ -25,7 +25,7 @@ refresh-steps M =
     }
 
 boolean-steps : (k : ℕ) → Steps (booleanClaim k)
-unfolding booleanGadget quiet bind
+unfolding booleanGadget silentSteps bind
 boolean-steps k =
     record {
       in-range = inside-out 1 31 k;

@@ -9,7 +9,7 @@ use Rattle.tape.specs.Tape.{start}
 use Rattle.draws.proofs.PlanLaws.{planned-ran, planned-ended}
 use Rattle.gate.specs.Checks.{inside}
 use Rattle.gate.specs.Told.{Told, refusal}
-use Rattle.gate.specs.Gadget.{fails, tells}
+use Rattle.gate.specs.Gadget.{checkNumber, tells}
 use Rattle.gate.proofs.CheckLaws.{fails-1, fails-2, fails-3, fails-4, inside-yes, inside-out, below-words}
 use Rattle.gate.proofs.GadgetLaws.{tells-refused}
 use Rattle.demands.specs.Claim.{Claim, Counted, plan}
@@ -23,12 +23,12 @@ not-so true n = absurd (n refl)
 not-so false n = refl
 
 module _ {c : Claim} (s : Steps c) (shares tape out : List ℕ) where
-  -- a check that fails answers
-  by-check : (k : ℕ) → k ≡ fails (c .gadget) shares out → ¬ (k ≡ 0) → Refused c shares tape out k
+  -- a check that checkNumber answers
+  by-check : (k : ℕ) → k ≡ checkNumber (c .gadget) shares out → ¬ (k ≡ 0) → Refused c shares tape out k
   by-check k e n = tells-refused (c .gadget) shares tape out (λ z. n (e ∙ z)) ∙ ap (λ (j : ℕ). refusal (c .gadget .fields) j out) (sym e)
 
   pub refusals : Refusals c shares tape out
-  unfolding fails refusal
+  unfolding checkNumber refusal
   refusals =
       let count : Counted shares → inside 2 8 (length shares) ≡ true = λ h. inside-yes 2 8 (length shares) (h .0) (h .1) in
       record {

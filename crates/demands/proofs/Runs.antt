@@ -10,8 +10,8 @@ use Rattle.tape.specs.Tape.{Ran, ended, ran, start}
 use Rattle.draws.specs.Draws.{Draws, run}
 use Rattle.draws.specs.Plan.{Gives}
 use Rattle.shares.specs.Sharing.{bound}
-use Rattle.gate.specs.Told.{Told, refusal, Outcome, told}
-use Rattle.gate.specs.Gadget.{closed, fails, tells}
+use Rattle.gate.specs.Told.{Told, refusal, Outcome, ranTold}
+use Rattle.gate.specs.Gadget.{closed, checkNumber, tells}
 use Rattle.gate.proofs.CheckLaws.{passed, fails-none, inside-yes, words-below}
 use Rattle.gate.proofs.GadgetLaws.{tells-passed, tells-refused}
 use Rattle.demands.specs.Claim.{Claim, Valid, plan}
@@ -22,15 +22,15 @@ abbrev pub program : Claim → List ℕ → Draws Outcome
 program c shares = closed (c .gadget .output) (c .gadget .steps shares)
 
 module _ {c : Claim} (s : Steps c) {shares out : List ℕ} where
-  -- a valid input fails no check, and one that fails none is valid
-  pub valid-passes : Valid c shares out → fails (c .gadget) shares out ≡ 0
-  unfolding fails
+  -- a valid input checkNumber no check, and one that checkNumber none is valid
+  pub valid-passes : Valid c shares out → checkNumber (c .gadget) shares out ≡ 0
+  unfolding checkNumber
   valid-passes v =
       sym (fails-none shares (length out) (c .gadget .inRange) (bound (c .gadget .input)) (inside-yes 2 8 (length shares) (v .counted .0) (v .counted .1)) (v .room)
       (s .range-in (v .range)) (words-below (v .below)))
 
-  pub passes-valid : fails (c .gadget) shares out ≡ 0 → Valid c shares out
-  unfolding fails
+  pub passes-valid : checkNumber (c .gadget) shares out ≡ 0 → Valid c shares out
+  unfolding checkNumber
   passes-valid e =
       let p = passed shares (length out) (c .gadget .inRange) (bound (c .gadget .input)) e in
       record { counted = (p .least, p .most); room = p .fits; range = s .in-range (p .range); below = p .below }
@@ -43,17 +43,17 @@ abbrev pub success : Outcome → Cursor → Told
 success o p = record { number = 0; opened = o .opened; used = p .at; out = o .shares }
 
 module _ (c : Claim) (shares tape out : List ℕ) where
-  pub tells-success : {o : Outcome} {p : Cursor} → fails (c .gadget) shares out ≡ 0 → run (program c shares) tape start ≡ ran o p → tells (c .gadget) shares tape out ≡ success o p
-  unfolding told
-  tells-success e f = tells-passed (c .gadget) shares tape out e ∙ ap (λ x. told (c .gadget .fields) x out) f
+  pub tells-success : {o : Outcome} {p : Cursor} → checkNumber (c .gadget) shares out ≡ 0 → run (program c shares) tape start ≡ ran o p → tells (c .gadget) shares tape out ≡ success o p
+  unfolding ranTold
+  tells-success e f = tells-passed (c .gadget) shares tape out e ∙ ap (λ x. ranTold (c .gadget .fields) x out) f
 
-  pub tells-short : fails (c .gadget) shares out ≡ 0 → run (program c shares) tape start ≡ ended → tells (c .gadget) shares tape out ≡ refusal (c .gadget .fields) 5 out
-  unfolding told
-  tells-short e f = tells-passed (c .gadget) shares tape out e ∙ ap (λ x. told (c .gadget .fields) x out) f
+  pub tells-short : checkNumber (c .gadget) shares out ≡ 0 → run (program c shares) tape start ≡ ended → tells (c .gadget) shares tape out ≡ refusal (c .gadget .fields) 5 out
+  unfolding ranTold
+  tells-short e f = tells-passed (c .gadget) shares tape out e ∙ ap (λ x. ranTold (c .gadget .fields) x out) f
 
   -- a call that succeeds: no check failed, and the run came to its end
   pub record Succeeded : Type 0 where
-    pub passes : fails (c .gadget) shares out ≡ 0
+    pub passes : checkNumber (c .gadget) shares out ≡ 0
     pub outcome : Outcome
     pub place : Cursor
     pub ran-to : run (program c shares) tape start ≡ ran outcome place
@@ -65,15 +65,15 @@ module _ (c : Claim) (shares tape out : List ℕ) where
     refuses : (k : ℕ) → tells (c .gadget) shares tape out ≡ refusal (c .gadget .fields) k out → ¬ (k ≡ 0) → Ending
 
   pub ending : Ending
-  ending = go (ℕ-discrete (fails (c .gadget) shares out) 0)
+  ending = go (ℕ-discrete (checkNumber (c .gadget) shares out) 0)
     where
-      ran-or-not : (x : Ran Outcome) → fails (c .gadget) shares out ≡ 0 → run (program c shares) tape start ≡ x → Ending
+      ran-or-not : (x : Ran Outcome) → checkNumber (c .gadget) shares out ≡ 0 → run (program c shares) tape start ≡ x → Ending
       ran-or-not ended e f = refuses 5 (tells-short e f) (λ z. omega arith)
       ran-or-not (ran o p) e f = succeeds (record { passes = e; outcome = o; place = p; ran-to = f; told-so = tells-success e f })
 
-      go : Dec (fails (c .gadget) shares out ≡ 0) → Ending
+      go : Dec (checkNumber (c .gadget) shares out ≡ 0) → Ending
       go (yes e) = ran-or-not (run (program c shares) tape start) e refl
-      go (no n) = refuses (fails (c .gadget) shares out) (tells-refused (c .gadget) shares tape out n) n
+      go (no n) = refuses (checkNumber (c .gadget) shares out) (tells-refused (c .gadget) shares tape out n) n
 
   pub succeeded : tells (c .gadget) shares tape out .number ≡ 0 → Succeeded
   unfolding refusal

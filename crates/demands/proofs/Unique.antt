@@ -2,7 +2,7 @@
 use mathlib.Core.Path.{_≡_, refl, sym, ap, _∙_}
 use mathlib.Core.List.{List}
 use Prim.Native.Nat.{ℕ}
-use Rattle.gate.specs.Told.{Told, toldBy}
+use Rattle.gate.specs.Told.{Told, standsFor}
 use Rattle.gate.specs.Gadget.{Gadget, tells}
 use Rattle.demands.specs.Unique.{Unique}
 
@@ -12,7 +12,7 @@ pub unique-by : {R : Type 0} (stands : R → List ℕ → Told) (answer : Told �
 unique-by stands answer slice f g t r s out filled e h = (sym (f r out) ∙ ap answer (e ∙ sym h) ∙ f s filled, sym (g r out) ∙ ap slice (e ∙ sym h) ∙ g s filled)
 
 -- so the answer of every gadget that answers a number and words used, and leaves its shares in the output slice
-pub unique : (g : Gadget) (shares tape out : List ℕ) → Unique toldBy (tells g shares tape out)
-unfolding toldBy
+pub unique : (g : Gadget) (shares tape out : List ℕ) → Unique standsFor (tells g shares tape out)
+unfolding standsFor
 unique g shares tape out =
-    unique-by toldBy (λ t. record { number = t .number; used = t .used }) (λ t. t .out) (λ r filled. refl) (λ r filled. refl) (tells g shares tape out)
+    unique-by standsFor (λ t. record { number = t .number; used = t .used }) (λ t. t .out) (λ r filled. refl) (λ r filled. refl) (tells g shares tape out)

@@ -6,3 +6,4 @@ pub mod Unique
 pub mod Demands
 pub mod Refresh
 pub mod Cases
+pub mod Worked

@@ -11,7 +11,8 @@ use lib.ListN.{length, getD, set, drop, length-set}
 use lib.Seq.{drop-cons, getD-set-same, getD-set-other}
 use lib.Dec.{ltb}
 use borrow.Author.Tests.{lt-ltb, le-ltb, ltb-true, ltb-false}
-use Rattle.numbers.specs.Bits.{bitsOf, pick}
+use Rattle.numbers.specs.Tests.{pick}
+use Rattle.numbers.specs.Bits.{bitsOf}
 use Rattle.tape.specs.declared.Cursor.{Cursor}
 use Rattle.tape.specs.Tape.{ended, ran, taken, passed, lowBits, drawAt}
 use Rattle.tape.specs.declared.Draw.{Draw}

@@ -3,7 +3,7 @@ use mathlib.Core.List.{List, [], _∷_}
 use Prim.Native.Nat.{ℕ, _+_, _-_, _<_}
 use lib.ListN.{drop}
 use lib.Dec.{ltb}
-use Rattle.numbers.specs.Bits.{pick}
+use Rattle.numbers.specs.Tests.{pick}
 use Rattle.tape.specs.declared.Cursor.{Cursor}
 use Rattle.tape.specs.Tape.{lowBits, drawAt}
 use Rattle.draws.specs.Draws.{Draws, done, draw, after, bind}

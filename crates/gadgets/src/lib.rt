@@ -1,5 +1,5 @@
 // The public gadgets. None has a `requires`: bad arguments are refused by number, and a refusal leaves the output slice as it was.
-use gate::Answer;
+pub use gate::Answer;
 use gate::copy_in;
 use gate::finish;
 use gate::first_failing;
@@ -8,12 +8,12 @@ use gate::refused;
 use gate::width_bound;
 use tape::Cursor;
 ghost use mathlib.Core.Path.{_≡_};
-ghost use Rattle.gate.specs.Told.{toldBy};
+ghost use Rattle.gate.specs.Told.{standsFor};
 ghost use Rattle.gate.specs.Gadget.{tells};
 ghost use Rattle.gadgets.specs.Refresh.{refreshGadget, booleanGadget};
 
 pub fn refresh(shares: &[u32], tape: &[u32], modulus: u32, out: &mut [u32]) -> Answer
-    ensures { λ r. ⌜ toldBy r (now (out .exit)) ≡ tells (refreshGadget modulus) (now (shares .entry)) (now (tape .entry)) (now (out .entry)) ⌝ }
+    ensures { λ r. ⌜ standsFor r (now (out .exit)) ≡ tells (refreshGadget modulus) (now (shares .entry)) (now (tape .entry)) (now (out .entry)) ⌝ }
 {
     let number = first_failing(shares, out.len(), inside(2, 4294967295, modulus), modulus);
     if number != 0 {
@@ -30,7 +30,7 @@ pub fn refresh(shares: &[u32], tape: &[u32], modulus: u32, out: &mut [u32]) -> A
 }
 
 pub fn refresh_boolean(shares: &[u32], tape: &[u32], width: u32, out: &mut [u32]) -> Answer
-    ensures { λ r. ⌜ toldBy r (now (out .exit)) ≡ tells (booleanGadget width) (now (shares .entry)) (now (tape .entry)) (now (out .entry)) ⌝ }
+    ensures { λ r. ⌜ standsFor r (now (out .exit)) ≡ tells (booleanGadget width) (now (shares .entry)) (now (tape .entry)) (now (out .entry)) ⌝ }
 {
     let number = first_failing(shares, out.len(), inside(1, 31, width), width_bound(width));
     if number != 0 {

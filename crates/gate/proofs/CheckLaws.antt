@@ -10,9 +10,9 @@ use lib.ListN.{length, getD, drop, drop-of-length-le}
 use lib.Seq.{drop-cons}
 use lib.Dec.{ltb, leb, eqb}
 use borrow.Author.Tests.{lt-ltb, le-ltb, le-leb, lt-leb, eq-eqb, ne-eqb, leb-true, ltb-true, eqb-true}
-use Rattle.numbers.specs.Bits.{pick}
+use Rattle.numbers.specs.Tests.{both, pick}
 use Rattle.numbers.specs.Lists.{Words}
-use Rattle.gate.specs.Checks.{both, inside, allBelow, firstFailing, checks}
+use Rattle.gate.specs.Checks.{inside, allBelow, firstFailing, checks}
 
 both-left : (a b : Bool) → both a b ≡ true → a ≡ true
 both-left true b e = refl
@@ -96,7 +96,7 @@ module _ (shares : List ℕ) (room : ℕ) (inRange : Bool) (M : ℕ) where
         unfolding firstFailing checks
         fails-none e = rw (count, eq-eqb room (length shares) fits, range, e)
 
-  -- what is known where none fails
+  -- what is known where none checkNumber
   pub record Passed : Type 0 where
     pub least : 2 ≤ length shares
     pub most : length shares ≤ 8

@@ -16,59 +16,59 @@ use Rattle.shares.specs.declared.Shared.{Shared}
 use Rattle.shares.specs.Arrays.{Held, shared, Gave}
 use Rattle.gate.specs.Checks.{firstFailing, checks}
 use Rattle.gate.specs.declared.Answer.{Answer}
-use Rattle.gate.specs.Told.{Told, refusal, silent, quietly, told, toldBy}
-use Rattle.gate.specs.Gadget.{Gadget, quiet, quietGadget, closed, fails, tells}
+use Rattle.gate.specs.Told.{Told, refusal, silent, silentRan, ranTold, standsFor}
+use Rattle.gate.specs.Gadget.{Gadget, silentSteps, silentGadget, closed, checkNumber, tells}
 use Rattle.gate.specs.Copied.{Copied}
 use Rattle.gate.proofs.CheckLaws.{Passed}
 
 module _ (g : Gadget) (shares tape out : List ℕ) where
-  -- no check fails
-  pub tells-passed : fails g shares out ≡ 0 → tells g shares tape out ≡ told (g .fields) (run (closed (g .output) (g .steps shares)) tape start) out
+  -- no check checkNumber
+  pub tells-passed : checkNumber g shares out ≡ 0 → tells g shares tape out ≡ ranTold (g .fields) (run (closed (g .output) (g .steps shares)) tape start) out
   unfolding tells
-  tells-passed e = rw (eq-eqb (fails g shares out) 0 e)
+  tells-passed e = rw (eq-eqb (checkNumber g shares out) 0 e)
 
   -- one does
-  pub tells-refused : (fails g shares out ≡ 0 → ⊥) → tells g shares tape out ≡ refusal (g .fields) (fails g shares out) out
+  pub tells-refused : (checkNumber g shares out ≡ 0 → ⊥) → tells g shares tape out ≡ refusal (g .fields) (checkNumber g shares out) out
   unfolding tells
-  tells-refused n = rw (ne-eqb (fails g shares out) 0 n)
+  tells-refused n = rw (ne-eqb (checkNumber g shares out) 0 n)
 
 -- steps that open nothing, closed, are the steps and then the refresh
-pub closed-quiet : (s : Sharing) (d : Draws (List ℕ)) (tape : List ℕ) (p : Cursor) → run (closed s (quiet d)) tape p ≡ quietly (run (bind d (refresh s)) tape p)
-unfolding closed quiet bind next after quietly run
-closed-quiet s d tape p =
+pub closed-silent : (s : Sharing) (d : Draws (List ℕ)) (tape : List ℕ) (p : Cursor) → run (closed s (silentSteps d)) tape p ≡ silentRan (run (bind d (refresh s)) tape p)
+unfolding closed silentSteps bind next after silentRan run
+closed-silent s d tape p =
     ap (λ e. run e tape p) (bind-assoc d (λ xs. done (silent xs)) (λ o. bind (refresh s (o .shares)) (λ zs. done (record { opened = o .opened; shares = zs })))
     ∙ sym (bind-assoc d (refresh s) (λ zs. done (silent zs))))
     ∙ run-bind (bind d (refresh s)) (λ zs. done (silent zs)) tape p
     ∙ last (run (bind d (refresh s)) tape p)
   where
-    last : (x : Ran (List ℕ)) → next x (λ zs c. run (done (silent zs)) tape c) ≡ quietly x
+    last : (x : Ran (List ℕ)) → next x (λ zs c. run (done (silent zs)) tape c) ≡ silentRan x
     last ended = refl
     last (ran zs c) = refl
 
 -- what the code's answers stand for
 module _ (x : Ran (List ℕ)) (out : List ℕ) where
-  pub told-ended : x ≡ ended → refusal 0 5 out ≡ told 0 (quietly x) out
-  unfolding told quietly
+  pub told-ended : x ≡ ended → refusal 0 5 out ≡ ranTold 0 (silentRan x) out
+  unfolding ranTold silentRan
   told-ended e = rw e
 
-  pub told-ran : {ys : List ℕ} {c : Cursor} → x ≡ ran ys c → (r : Answer) → r .number ≡ 0 → r .used ≡ c .at → toldBy r ys ≡ told 0 (quietly x) out
-  unfolding told toldBy quietly
+  pub told-ran : {ys : List ℕ} {c : Cursor} → x ≡ ran ys c → (r : Answer) → r .number ≡ 0 → r .used ≡ c .at → standsFor r ys ≡ ranTold 0 (silentRan x) out
+  unfolding ranTold standsFor silentRan
   told-ran e r f g = rw (e, f, g)
 
 -- a public gadget that opens nothing keeps its promise: where a check failed, and where its steps ran
 module _ (inRange : Bool) (input output : Sharing) (steps : List ℕ → Draws (List ℕ)) (shares tape out : List ℕ) where
-  pub quiet-refused : {k : ℕ} {t : Told} → k ≡ firstFailing (checks shares (length out) inRange (bound input)) → (k ≡ 0 → ⊥) → t ≡ refusal 0 k out →
-      t ≡ tells (quietGadget inRange input output steps) shares tape out
-  unfolding fails
-  quiet-refused e n f = f ∙ ap (λ (m : ℕ). refusal 0 m out) e ∙ sym (tells-refused (quietGadget inRange input output steps) shares tape out (λ z. n (e ∙ z)))
+  pub silent-refused : {k : ℕ} {t : Told} → k ≡ firstFailing (checks shares (length out) inRange (bound input)) → (k ≡ 0 → ⊥) → t ≡ refusal 0 k out →
+      t ≡ tells (silentGadget inRange input output steps) shares tape out
+  unfolding checkNumber
+  silent-refused e n f = f ∙ ap (λ (m : ℕ). refusal 0 m out) e ∙ sym (tells-refused (silentGadget inRange input output steps) shares tape out (λ z. n (e ∙ z)))
 
-  pub quiet-ran : {t : Told} {x : Ran (List ℕ)} → firstFailing (checks shares (length out) inRange (bound input)) ≡ 0 →
-      t ≡ told 0 (quietly x) out → x ≡ run (bind (steps shares) (refresh output)) tape start →
-      t ≡ tells (quietGadget inRange input output steps) shares tape out
-  unfolding fails
-  quiet-ran e f h =
-      f ∙ ap (λ y. told 0 (quietly y) out) h ∙ ap (λ y. told 0 y out) (sym (closed-quiet output (steps shares) tape start))
-      ∙ sym (tells-passed (quietGadget inRange input output steps) shares tape out e)
+  pub silent-ran : {t : Told} {x : Ran (List ℕ)} → firstFailing (checks shares (length out) inRange (bound input)) ≡ 0 →
+      t ≡ ranTold 0 (silentRan x) out → x ≡ run (bind (steps shares) (refresh output)) tape start →
+      t ≡ tells (silentGadget inRange input output steps) shares tape out
+  unfolding checkNumber
+  silent-ran e f h =
+      f ∙ ap (λ y. ranTold 0 (silentRan y) out) h ∙ ap (λ y. ranTold 0 y out) (sym (closed-silent output (steps shares) tape start))
+      ∙ sym (tells-passed (silentGadget inRange input output steps) shares tape out e)
 
 -- steps that ran on the copied shares from the tape's start ran on the shares
 pub on-copy : (d : List ℕ → Draws (List ℕ)) {shares words : List ℕ} (tape : List ℕ) {room M : ℕ} {c : Cursor} {s : Shared} →

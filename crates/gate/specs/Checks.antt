@@ -1,14 +1,10 @@
 -- The checks before a gadget runs, and their order (document 01, "What a caller gets back").
-use mathlib.Core.Bool.{Bool, true, false}
+use mathlib.Core.Bool.{Bool, true}
 use mathlib.Core.List.{List, [], _∷_}
 use Prim.Native.Nat.{ℕ}
 use lib.ListN.{length}
 use lib.Dec.{leb, ltb, eqb}
-use Rattle.numbers.specs.Bits.{pick}
-
-abbrev pub both : Bool → Bool → Bool
-both true b = b
-both false b = false
+use Rattle.numbers.specs.Tests.{both, pick}
 
 -- a number from low to high
 unfoldable pub inside : ℕ → ℕ → ℕ → Bool
@@ -19,7 +15,7 @@ unfoldable pub allBelow : ℕ → List ℕ → Bool
 allBelow M [] = true
 allBelow M (x ∷ xs) = both (ltb x M) (allBelow M xs)
 
--- checks run in order; the first that fails answers with its number, and 0 is that none does
+-- checks run in order; the first that checkNumber answers with its number, and 0 is that none does
 unfoldable pub firstFailing : List (ℕ × Bool) → ℕ
 firstFailing [] = 0
 firstFailing (c ∷ cs) = pick (c .1) (firstFailing cs) (c .0)

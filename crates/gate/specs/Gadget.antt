@@ -4,13 +4,13 @@ use mathlib.Core.List.{List}
 use Prim.Native.Nat.{ℕ}
 use lib.ListN.{length}
 use lib.Dec.{eqb}
-use Rattle.numbers.specs.Bits.{pick}
+use Rattle.numbers.specs.Tests.{pick}
 use Rattle.tape.specs.Tape.{start}
 use Rattle.draws.specs.Draws.{Draws, done, bind, run}
 use Rattle.shares.specs.Sharing.{Sharing, bound}
 use Rattle.shares.specs.Refresh.{refresh}
 use Rattle.gate.specs.Checks.{firstFailing, checks}
-use Rattle.gate.specs.Told.{Told, refusal, Outcome, silent, told}
+use Rattle.gate.specs.Told.{Told, refusal, Outcome, silent, ranTold}
 
 -- a gadget, its parameters given
 pub record Gadget : Type 0 where
@@ -25,23 +25,23 @@ pub record Gadget : Type 0 where
   pub steps : List ℕ → Draws Outcome
 
 -- steps that open nothing
-unfoldable pub quiet : Draws (List ℕ) → Draws Outcome
-quiet d = bind d (λ xs. done (silent xs))
+unfoldable pub silentSteps : Draws (List ℕ) → Draws Outcome
+silentSteps d = bind d (λ xs. done (silent xs))
 
 -- a gadget that opens nothing
-abbrev pub quietGadget : Bool → (input output : Sharing) → (List ℕ → Draws (List ℕ)) → Gadget
-quietGadget inRange input output steps = record { inRange = inRange; input = input; output = output; fields = 0; steps = λ xs. quiet (steps xs) }
+abbrev pub silentGadget : Bool → (input output : Sharing) → (List ℕ → Draws (List ℕ)) → Gadget
+silentGadget inRange input output steps = record { inRange = inRange; input = input; output = output; fields = 0; steps = λ xs. silentSteps (steps xs) }
 
 -- every public gadget that returns shares ends with a closing refresh, in its output's modulus or width
 unfoldable pub closed : Sharing → Draws Outcome → Draws Outcome
 closed s d = bind d (λ o. bind (refresh s (o .shares)) (λ zs. done (record { opened = o .opened; shares = zs })))
 
--- the number of the first check that fails, or 0
-unfoldable pub fails : Gadget → List ℕ → List ℕ → ℕ
-fails g shares out = firstFailing (checks shares (length out) (g .inRange) (bound (g .input)))
+-- the number of the first check that checkNumber, or 0
+unfoldable pub checkNumber : Gadget → List ℕ → List ℕ → ℕ
+checkNumber g shares out = firstFailing (checks shares (length out) (g .inRange) (bound (g .input)))
 
--- what it tells: a refusal by the first check that fails, or what its steps and the closing refresh give on the tape
+-- what it tells: a refusal by the first check that checkNumber, or what its steps and the closing refresh give on the tape
 unfoldable pub tells : Gadget → (shares tape out : List ℕ) → Told
 tells g shares tape out =
-    pick (eqb (fails g shares out) 0) (told (g .fields) (run (closed (g .output) (g .steps shares)) tape start) out)
-    (refusal (g .fields) (fails g shares out) out)
+    pick (eqb (checkNumber g shares out) 0) (ranTold (g .fields) (run (closed (g .output) (g .steps shares)) tape start) out)
+    (refusal (g .fields) (checkNumber g shares out) out)

@@ -25,15 +25,15 @@ pub record Outcome : Type 0 where
 abbrev pub silent : List ℕ → Outcome
 silent xs = record { opened = []; shares = xs }
 
-unfoldable pub quietly : Ran (List ℕ) → Ran Outcome
-quietly ended = ended
-quietly (ran xs c) = ran (silent xs) c
+unfoldable pub silentRan : Ran (List ℕ) → Ran Outcome
+silentRan ended = ended
+silentRan (ran xs c) = ran (silent xs) c
 
 -- the tape ends before the last draw, or the number is 0 and the shares fill the output slice
-unfoldable pub told : ℕ → Ran Outcome → List ℕ → Told
-told fields ended out = refusal fields 5 out
-told fields (ran o c) out = record { number = 0; opened = o .opened; used = c .at; out = o .shares }
+unfoldable pub ranTold : ℕ → Ran Outcome → List ℕ → Told
+ranTold fields ended out = refusal fields 5 out
+ranTold fields (ran o c) out = record { number = 0; opened = o .opened; used = c .at; out = o .shares }
 
 -- what an answer with no other field and the output slice stand for
-unfoldable pub toldBy : Answer → List ℕ → Told
-toldBy r out = record { number = r .number; opened = []; used = r .used; out = out }
+unfoldable pub standsFor : Answer → List ℕ → Told
+standsFor r out = record { number = r .number; opened = []; used = r .used; out = out }

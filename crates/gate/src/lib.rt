@@ -7,7 +7,7 @@ ghost use Prim.Native.Nat.{ℕ, _^_, _≤_};
 ghost use lib.ListN.{length, take};
 ghost use Rattle.shares.specs.Arrays.{shared};
 ghost use Rattle.gate.specs.Checks.{inside, allBelow, firstFailing, checks};
-ghost use Rattle.gate.specs.Told.{refusal, quietly, told, toldBy};
+ghost use Rattle.gate.specs.Told.{refusal, silentRan, ranTold, standsFor};
 ghost use Rattle.gate.specs.Copied.{Copied};
 
 // What a caller gets back: 0, or the number of a refusal; and how many tape words were read, 0 in a refusal.
@@ -43,7 +43,7 @@ fn all_below(shares: &[u32], m: u32) -> bool
     true
 }
 
-// The number of the first check that fails, or 0: no share is looked at before the parameters are found to be in range.
+// The number of the first check that checkNumber, or 0: no share is looked at before the parameters are found to be in range.
 pub fn first_failing(shares: &[u32], room: usize, in_range: bool, m: u32) -> u32
     ensures { λ r. ⌜ r ≡ firstFailing (checks (now (shares .entry)) room in_range m) ⌝ }
 {
@@ -91,7 +91,7 @@ fn copy_out(words: [u32; 8], out: &mut [u32])
 }
 
 pub fn refused(number: u32) -> Answer
-    ensures { λ r. ⌜ ((out : List ℕ) → toldBy r out ≡ refusal 0 number out) ⌝ }
+    ensures { λ r. ⌜ ((out : List ℕ) → standsFor r out ≡ refusal 0 number out) ⌝ }
 {
     Answer { number, used: 0 }
 }
@@ -99,7 +99,7 @@ pub fn refused(number: u32) -> Answer
 // The shares that a gadget gave fill the output slice; where the tape has ended, the slice stays as it was.
 pub fn finish(s: Shared, out: &mut [u32]) -> Answer
     requires { ⌜ length (now out) ≤ 8 ⌝ }
-    ensures { λ r. ⌜ toldBy r (now (out .exit)) ≡ told 0 (quietly (shared (length (now (out .entry))) s)) (now (out .entry)) ⌝ }
+    ensures { λ r. ⌜ standsFor r (now (out .exit)) ≡ ranTold 0 (silentRan (shared (length (now (out .entry))) s)) (now (out .entry)) ⌝ }
 {
     if !s.ok {
         return refused(5);

@@ -1,13 +1,8 @@
 -- The two numbers of bits that document 01 names: L, of a draw ("The tape"), and α ("What the library covers").
 use Prim.Native.Nat.{ℕ, zero, suc, _-_, _^_}
-use mathlib.Core.Bool.{Bool, true, false}
 use lib.Dec.{leb}
 use lib.Count.{leadingZeros}
-
--- one of two, by a test
-abbrev pub pick : {A : Type 0} → Bool → A → A → A
-pick true a b = a
-pick false a b = b
+use Rattle.numbers.specs.Tests.{pick}
 
 -- L, the bits of a draw below M: 32 less the leading zeros of M - 1
 unfoldable pub bitsOf : ℕ → ℕ

@@ -1,3 +1,4 @@
+pub mod Tests
 pub mod Modulo
 pub mod Bits
 pub mod Lists

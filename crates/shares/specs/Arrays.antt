@@ -4,7 +4,7 @@ use mathlib.Core.Bool.{true}
 use mathlib.Core.List.{List}
 use Prim.Native.Nat.{ℕ, _≤_}
 use lib.ListN.{take}
-use Rattle.numbers.specs.Bits.{pick}
+use Rattle.numbers.specs.Tests.{pick}
 use Rattle.numbers.specs.Lists.{Words}
 use Rattle.tape.specs.Tape.{Ran, ended, ran}
 use Rattle.shares.specs.declared.Shared.{Shared}

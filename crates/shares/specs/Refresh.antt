@@ -10,10 +10,11 @@ use Rattle.shares.specs.Sharing.{Sharing, bound, plus, minus}
 unfoldable pub stir : Sharing → ℕ → ℕ → ℕ → List ℕ → List ℕ
 stir s last i r xs = change (λ x. minus s x r) last (change (λ x. plus s x r) i xs)
 
+-- one turn: a draw r below M (2^k), and the shares stirred by it
 unfoldable pub turn : Sharing → ℕ → ℕ → List ℕ → Draws (List ℕ)
 turn s last i xs = draw (bound s) (λ r. done (stir s last i r xs))
 
--- for each share but the last: draw r below M (2^k), add it to the share, take it from the last
+-- for each share but the last, in order, one turn
 unfoldable pub refresh : Sharing → List ℕ → Draws (List ℕ)
 refresh s xs = each (turn s (length xs - 1)) 0 (length xs - 1) xs
 

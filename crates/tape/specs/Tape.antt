@@ -3,7 +3,8 @@ use Prim.Native.Nat.{ℕ, _+_, _%_, _^_}
 use mathlib.Core.List.{List, [], _∷_}
 use lib.ListN.{drop}
 use lib.Dec.{ltb}
-use Rattle.numbers.specs.Bits.{bitsOf, pick}
+use Rattle.numbers.specs.Tests.{pick}
+use Rattle.numbers.specs.Bits.{bitsOf}
 use Rattle.tape.specs.declared.Cursor.{Cursor}
 
 -- the tape is read from place 0 in each call

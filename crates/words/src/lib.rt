@@ -5,7 +5,7 @@ ghost use Prim.Native.Nat.{_%_, _^_, _≤_, _<_};
 ghost use Rattle.numbers.specs.Modulo.{q, addMod, subMod, negMod};
 ghost use Rattle.numbers.specs.Bits.{bitsOf, alpha};
 
-pub const Q: u64 = 8380417;
+pub const Q: u32 = 8380417;
 
 // `m - b` is formed first, so that the sum of two words fits for every modulus of 32 bits.
 pub fn add_mod(a: u32, b: u32, m: u32) -> u32
@@ -34,7 +34,7 @@ pub fn neg_mod(a: u32, m: u32) -> u32
 pub fn reduce_q(x: u64) -> u32
     ensures { λ r. ⌜ r ≡ x % q ⌝ }
 {
-    (x % Q) as u32
+    (x % (Q as u64)) as u32
 }
 
 // L: how many bits a draw below m has.
@@ -46,11 +46,11 @@ pub fn bits(m: u32) -> u32
 }
 
 // α of n shares.
-pub fn alpha(n: u32) -> u32
-    requires { ⌜ 2 ≤ n ⌝ }
+pub fn alpha(n: usize) -> u32
+    requires { ⌜ (2 ≤ n) × (n ≤ 8) ⌝ }
     ensures { λ r. ⌜ r ≡ alpha n ⌝ }
 {
-    bits(n)
+    bits(n as u32)
 }
 
 pub fn power(k: u32) -> u32

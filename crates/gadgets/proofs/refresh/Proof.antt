@@ -7,7 +7,7 @@ use Rattle.draws.specs.Draws.{bind, done}
 use Rattle.shares.specs.Refresh.{refresh}
 use Rattle.gate.specs.Checks.{inside, firstFailing, checks}
 use Rattle.gate.proofs.CheckLaws.{Passed, passed, inside-out, checked}
-use Rattle.gate.proofs.GadgetLaws.{quiet-refused, quiet-ran, on-copy, held}
+use Rattle.gate.proofs.GadgetLaws.{silent-refused, silent-ran, on-copy, held}
 use Rattle.shares.specs.Sharing.{arithmetic}
 use Rattle.gadgets.specs.Refresh.{refreshGadget}
 use Rattle.gadgets.proofs.refresh.Statement.{statement}
@@ -34,7 +34,7 @@ refused-requires c κs = search needs
 
 returns : tie.Need-returns
 unfolding refreshGadget
-returns c = quiet-refused _ _ _ done _ _ _ (number (c .before .before)) (c .before .if1 .taken) (c .refused .ensures _)
+returns c = silent-refused _ _ _ done _ _ _ (number (c .before .before)) (c .before .if1 .taken) (c .refused .ensures _)
 
 copy-in-requires : tie.Need-copy-in-requires
 copy-in-requires c κs = good c .most
@@ -59,7 +59,7 @@ returns-2 c =
     let f = c .before .before in
     let r = f .before .before in
     let p = good (r .before .before .before) in
-    quiet-ran _ _ _ done _ _ _ (sym (number (r .before .before .before .before)) ∙ r .before .before .before .if1 .left) (f .finish .ensures)
+    silent-ran _ _ _ done _ _ _ (sym (number (r .before .before .before .before)) ∙ r .before .before .before .if1 .left) (f .finish .ensures)
     (on-copy (refresh (arithmetic _)) _ (r .before .before .copy-in .ensures) (p .fits) (r .before .start .ensures) (r .refresh .ensures))
 
 pub refresh-spec : {M : Type 1} → statement M
