@@ -4,10 +4,10 @@ use super::tally::low;
 use super::tally::mix;
 use super::tally::noted;
 use super::tally::step;
+use gadgets::Answer;
 use gadgets::refresh;
 use gadgets::refresh_boolean;
-use gate::Answer;
-use gate::width_bound;
+use words::power;
 
 pub const ROUNDS: u32 = 600;
 
@@ -63,7 +63,7 @@ fn parameter(gadget: u32, r: u32, x: u32) -> u32 {
 fn bound(gadget: u32, a: u32) -> u32 {
     match gadget {
         1 => a,
-        _ => width_bound(a),
+        _ => power(a % 32),
     }
 }
 

@@ -1,5 +1,5 @@
 // What is kept of the answers: how often each number came, and a checksum.
-use gate::Answer;
+use gadgets::Answer;
 
 pub struct Tally {
     pub counts: [u32; 6],

@@ -23,7 +23,7 @@ not-so true n = absurd (n refl)
 not-so false n = refl
 
 module _ {c : Claim} (s : Steps c) (shares tape out : List ℕ) where
-  -- a check that checkNumber answers
+  -- a check that fails answers
   by-check : (k : ℕ) → k ≡ checkNumber (c .gadget) shares out → ¬ (k ≡ 0) → Refused c shares tape out k
   by-check k e n = tells-refused (c .gadget) shares tape out (λ z. n (e ∙ z)) ∙ ap (λ (j : ℕ). refusal (c .gadget .fields) j out) (sym e)
 

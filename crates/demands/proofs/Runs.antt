@@ -22,7 +22,7 @@ abbrev pub program : Claim → List ℕ → Draws Outcome
 program c shares = closed (c .gadget .output) (c .gadget .steps shares)
 
 module _ {c : Claim} (s : Steps c) {shares out : List ℕ} where
-  -- a valid input checkNumber no check, and one that checkNumber none is valid
+  -- a valid input fails no check, and one that fails none is valid
   pub valid-passes : Valid c shares out → checkNumber (c .gadget) shares out ≡ 0
   unfolding checkNumber
   valid-passes v =

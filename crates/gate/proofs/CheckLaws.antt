@@ -96,7 +96,7 @@ module _ (shares : List ℕ) (room : ℕ) (inRange : Bool) (M : ℕ) where
         unfolding firstFailing checks
         fails-none e = rw (count, eq-eqb room (length shares) fits, range, e)
 
-  -- what is known where none checkNumber
+  -- what is known where none fails
   pub record Passed : Type 0 where
     pub least : 2 ≤ length shares
     pub most : length shares ≤ 8

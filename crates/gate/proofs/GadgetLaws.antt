@@ -22,7 +22,7 @@ use Rattle.gate.specs.Copied.{Copied}
 use Rattle.gate.proofs.CheckLaws.{Passed}
 
 module _ (g : Gadget) (shares tape out : List ℕ) where
-  -- no check checkNumber
+  -- no check fails
   pub tells-passed : checkNumber g shares out ≡ 0 → tells g shares tape out ≡ ranTold (g .fields) (run (closed (g .output) (g .steps shares)) tape start) out
   unfolding tells
   tells-passed e = rw (eq-eqb (checkNumber g shares out) 0 e)

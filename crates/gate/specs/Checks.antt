@@ -15,7 +15,7 @@ unfoldable pub allBelow : ℕ → List ℕ → Bool
 allBelow M [] = true
 allBelow M (x ∷ xs) = both (ltb x M) (allBelow M xs)
 
--- checks run in order; the first that checkNumber answers with its number, and 0 is that none does
+-- checks run in order; the first that fails answers with its number, and 0 is that none does
 unfoldable pub firstFailing : List (ℕ × Bool) → ℕ
 firstFailing [] = 0
 firstFailing (c ∷ cs) = pick (c .1) (firstFailing cs) (c .0)

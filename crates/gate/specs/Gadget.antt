@@ -36,11 +36,11 @@ silentGadget inRange input output steps = record { inRange = inRange; input = in
 unfoldable pub closed : Sharing → Draws Outcome → Draws Outcome
 closed s d = bind d (λ o. bind (refresh s (o .shares)) (λ zs. done (record { opened = o .opened; shares = zs })))
 
--- the number of the first check that checkNumber, or 0
+-- the number of the first check that fails, or 0
 unfoldable pub checkNumber : Gadget → List ℕ → List ℕ → ℕ
 checkNumber g shares out = firstFailing (checks shares (length out) (g .inRange) (bound (g .input)))
 
--- what it tells: a refusal by the first check that checkNumber, or what its steps and the closing refresh give on the tape
+-- what it tells: a refusal by the first check that fails, or what its steps and the closing refresh give on the tape
 unfoldable pub tells : Gadget → (shares tape out : List ℕ) → Told
 tells g shares tape out =
     pick (eqb (checkNumber g shares out) 0) (ranTold (g .fields) (run (closed (g .output) (g .steps shares)) tape start) out)

@@ -43,7 +43,7 @@ fn all_below(shares: &[u32], m: u32) -> bool
     true
 }
 
-// The number of the first check that checkNumber, or 0: no share is looked at before the parameters are found to be in range.
+// The number of the first check that fails, or 0: no share is looked at before the parameters are found to be in range.
 pub fn first_failing(shares: &[u32], room: usize, in_range: bool, m: u32) -> u32
     ensures { λ r. ⌜ r ≡ firstFailing (checks (now (shares .entry)) room in_range m) ⌝ }
 {

@@ -3,3 +3,4 @@ pub mod ArraysLaws
 pub mod TurnLaws
 pub mod RefreshLaws
 pub mod SettingLaws
+pub mod StandIns
