@@ -3,10 +3,10 @@ use mathlib.Core.Path.{_≡_, sym, ap, _∙_}
 use mathlib.Core.List.{List}
 use Prim.Native.Nat.{ℕ, _+_, _-_, _≤_, _<_}
 use native.Mathlib.Omega.{arith}
-use lib.ListN.{length, getD, set, take}
-use lib.Seq.{length-take-le}
-use Rattle.numbers.specs.Lists.{change}
-use Rattle.numbers.proofs.WordsLaws.{take-change, set-change}
+use lib.ListN.{length, getD, set, take, length-set}
+use lib.Seq.{length-take-le, set-getD, set-set, set-comm, getD-set-same, getD-set-other}
+use Rattle.numbers.specs.Lists.{Words, change}
+use Rattle.numbers.proofs.WordsLaws.{take-change}
 use Rattle.tape.specs.declared.Cursor.{Cursor}
 use Rattle.tape.specs.declared.Draw.{Draw}
 use Rattle.tape.specs.declared.Draw.the-variants.{Got, Ended}
@@ -22,58 +22,75 @@ use Rattle.shares.specs.Arrays.{Held}
 use Rattle.shares.proofs.SharingLaws.{group}
 use Rattle.shares.proofs.ArraysLaws.{held-at, held-set}
 
--- at turn i of a refresh of n shares that began as x: what is left to do gives the same as the whole
-pub record Left (s : Sharing) (size n : ℕ) (tape : List ℕ) (x : Ran (List ℕ)) (i : ℕ) (words : List ℕ) (p : Cursor) : Type 0 where
+-- at turn i of a refresh of n shares that began as x, with the last share in tail: what is left to do gives the same as the whole
+pub record Left (s : Sharing) (size n : ℕ) (tape : List ℕ) (x : Ran (List ℕ)) (i : ℕ) (words : List ℕ) (tail : ℕ) (p : Cursor) : Type 0 where
   pub held : Held size n (bound s) words
-  pub same : run (each (turn s (n - 1)) i (n - 1) (take n words)) tape p ≡ x
+  pub below : tail < bound s
+  pub same : run (each (turn s (n - 1)) i (n - 1) (take n (set words (n - 1) tail))) tape p ≡ x
 
-pub left-start : (s : Sharing) (size n : ℕ) (words tape : List ℕ) (p : Cursor) → Held size n (bound s) words → Left s size n tape (run (refresh s (take n words)) tape p) 0 words p
+pub left-start : (s : Sharing) (size n : ℕ) (words tape : List ℕ) (p : Cursor) → Held size n (bound s) words →
+    Left s size n tape (run (refresh s (take n words)) tape p) 0 words (getD words (n - 1) 0) p
 unfolding refresh
 left-start s size n words tape p h =
     let e : length (take n words) ≡ n = length-take-le n words (omega (arith, h .most, h .all .size)) in
     record {
       held = h;
-      same = sym (ap (λ (k : ℕ). run (each (turn s (k - 1)) 0 (k - 1) (take n words)) tape p) e);
+      below = held-at h (n - 1);
+      same =
+          ap (λ (l : List ℕ). run (each (turn s (n - 1)) 0 (n - 1) (take n l)) tape p) (set-getD words (n - 1) 0)
+          ∙ sym (ap (λ (k : ℕ). run (each (turn s (k - 1)) 0 (k - 1) (take n words)) tape p) e);
     }
 
-module _ {s : Sharing} {size n : ℕ} {tape : List ℕ} {x : Ran (List ℕ)} {i : ℕ} {words : List ℕ} {p : Cursor} (a : Left s size n tape x i words p) where
-  -- no turn is left
-  pub left-none : n - 1 ≤ i → ran (take n words) p ≡ x
-  left-none h = sym (each-done (turn s (n - 1)) i (n - 1) (take n words) tape p h) ∙ a .same
+module _ {s : Sharing} {size n : ℕ} {tape : List ℕ} {x : Ran (List ℕ)} {i : ℕ} {words : List ℕ} {tail : ℕ} {p : Cursor} (a : Left s size n tape x i words tail p) where
+  -- no turn is left, and the last share is stored
+  pub left-words : Words size (bound s) (set words (n - 1) tail)
+  left-words = held-set (a .held) (n - 1) (a .below) .all
+
+  pub left-none : n - 1 ≤ i → ran (take n (set words (n - 1) tail)) p ≡ x
+  left-none h = sym (each-done (turn s (n - 1)) i (n - 1) (take n (set words (n - 1) tail)) tape p h) ∙ a .same
 
   module _ (h : i < n - 1) (d : Draw) (told : drawn d ≡ drawAt tape p (bound s)) where
     -- the tape has ended
     pub left-ended : d ≡ Ended → ended ≡ x
     unfolding turn
-    left-ended e = sym (each-ended (turn s (n - 1)) i (n - 1) (take n words) tape p h (run-ended (bound s) _ tape p (none-left d told e))) ∙ a .same
+    left-ended e =
+        sym (each-ended (turn s (n - 1)) i (n - 1) (take n (set words (n - 1) tail)) tape p h (run-ended (bound s) _ tape p (none-left d told e))) ∙ a .same
 
     module _ {r : ℕ} {c : Cursor} (e : d ≡ Got r c) where
       pub left-draw : r < bound s
       left-draw = got-below d tape p (bound s) told e
 
-      stir-take : take n (stir s (n - 1) i r words) ≡ stir s (n - 1) i r (take n words)
+      stir-take : (ws : List ℕ) → take n (stir s (n - 1) i r ws) ≡ stir s (n - 1) i r (take n ws)
       unfolding stir
-      stir-take =
-          take-change (λ y. minus s y r) n (n - 1) (change (λ y. plus s y r) i words) (omega arith)
-          ∙ ap (change (λ y. minus s y r) (n - 1)) (take-change (λ y. plus s y r) n i words (omega arith))
+      stir-take ws =
+          take-change (λ y. minus s y r) n (n - 1) (change (λ y. plus s y r) i ws) (omega arith)
+          ∙ ap (change (λ y. minus s y r) (n - 1)) (take-change (λ y. plus s y r) n i ws (omega arith))
 
-      pub left-first : {v : ℕ} → v ≡ plus s (getD words i 0) r → Held size n (bound s) (set words i v)
-      left-first f = let g = group s (omega (arith, a .held .two)) in held-set (a .held) i (rw f (g .add-below (getD words i 0) r (held-at (a .held) i) left-draw))
+      -- a turn with the last share in a local
+      stirred : {v w : ℕ} → v ≡ plus s (getD words i 0) r → w ≡ minus s tail r → set (set words i v) (n - 1) w ≡ stir s (n - 1) i r (set words (n - 1) tail)
+      unfolding stir change
+      stirred {v} {w} f o =
+          let last : ℕ = n - 1 in
+          let l : last < length (set words i v) = omega (arith, length-set words i v, a .held .all .size, a .held .most) in
+          let g : plus s (getD (set words last tail) i 0) r ≡ v = ap (λ y. plus s y r) (getD-set-other words last i tail 0 (omega arith)) ∙ sym f in
+          let t : set (set words last tail) i v ≡ set (set words i v) last tail = set-comm words last i tail v (omega arith) in
+          sym (ap (λ y. set (set (set words last tail) i y) last (minus s (getD (set (set words last tail) i y) last 0) r)) g
+          ∙ ap (λ (y : List ℕ). set y last (minus s (getD y last 0) r)) t
+          ∙ ap (λ y. set (set (set words i v) last tail) last (minus s y r)) (getD-set-same (set words i v) last tail 0 l)
+          ∙ set-set (set words i v) last tail (minus s tail r) ∙ ap (set (set words i v) last) (sym o))
 
-      -- r added to word i and taken from the last
-      pub left-more : {v w : ℕ} → v ≡ plus s (getD words i 0) r → w ≡ minus s (getD (set words i v) (n - 1) 0) r →
-          Left s size n tape x (i + 1) (set (set words i v) (n - 1) w) c
-      unfolding turn stir
+      -- r added to word i and taken from the last share
+      pub left-more : {v w : ℕ} → v ≡ plus s (getD words i 0) r → w ≡ minus s tail r → Left s size n tape x (i + 1) (set words i v) w c
+      unfolding turn
       left-more {v} {w} f o =
-          let b = left-first f in
           let g = group s (omega (arith, a .held .two)) in
           let y : List ℕ = set (set words i v) (n - 1) w in
-          let t : y ≡ stir s (n - 1) i r words =
-          set-change (λ y. minus s y r) (n - 1) (set words i v) w o ∙ ap (change (λ y. minus s y r) (n - 1)) (set-change (λ y. plus s y r) i words v f) in
           record {
-            held = held-set b (n - 1) (rw o (g .sub-below (getD (set words i v) (n - 1) 0) r (held-at b (n - 1)) left-draw));
+            held = held-set (a .held) i (rw f (g .add-below (getD words i 0) r (held-at (a .held) i) left-draw));
+            below = rw o (g .sub-below tail r (a .below) left-draw);
             same =
-                sym (each-more (turn s (n - 1)) i (n - 1) (take n words) tape p h (take n y) c
-                (run-draw (bound s) _ tape p r c (got d told e) ∙ run-done _ tape c ∙ ap (λ (l : List ℕ). ran l c) (sym (ap (take n) t ∙ stir-take))))
+                sym (each-more (turn s (n - 1)) i (n - 1) (take n (set words (n - 1) tail)) tape p h (take n y) c
+                (run-draw (bound s) _ tape p r c (got d told e) ∙ run-done _ tape c
+                ∙ ap (λ (l : List ℕ). ran l c) (sym (ap (take n) (stirred f o) ∙ stir-take (set words (n - 1) tail)))))
                 ∙ a .same;
           }

@@ -1,4 +1,4 @@
-// Refresh mod m.
+// Refresh mod m. The last share is kept in a local while the draws go by: stored at every turn, it would be what each turn waits for.
 use super::Shared;
 use tape::Cursor;
 use tape::Draw;
@@ -17,6 +17,7 @@ pub fn refresh(shares: [u32; 8], n: usize, m: u32, cursor: Cursor, tape: &[u32])
     let mut words = shares;
     let mut cur = cursor;
     let last = n - 1;
+    let mut tail = words[last];
     for i in 0..last {
         let Draw::Got(r, next) = cur.draw(tape, m) else {
             return Shared {
@@ -26,9 +27,10 @@ pub fn refresh(shares: [u32; 8], n: usize, m: u32, cursor: Cursor, tape: &[u32])
             };
         };
         words[i] = add_mod(words[i], r, m);
-        words[last] = sub_mod(words[last], r, m);
+        tail = sub_mod(tail, r, m);
         cur = next;
     }
+    words[last] = tail;
     Shared {
         words,
         cursor: cur,

@@ -1,4 +1,4 @@
-// Boolean refresh of width k.
+// Boolean refresh of width k, with the last share in a local as in the refresh mod m.
 use super::Shared;
 use tape::Cursor;
 use tape::Draw;
@@ -18,6 +18,7 @@ pub fn refresh_boolean(shares: [u32; 8], n: usize, k: u32, cursor: Cursor, tape:
     let mut words = shares;
     let mut cur = cursor;
     let last = n - 1;
+    let mut tail = words[last];
     for i in 0..last {
         let Draw::Got(r, next) = cur.draw(tape, m) else {
             return Shared {
@@ -27,9 +28,10 @@ pub fn refresh_boolean(shares: [u32; 8], n: usize, k: u32, cursor: Cursor, tape:
             };
         };
         words[i] = words[i] ^ r;
-        words[last] = words[last] ^ r;
+        tail = tail ^ r;
         cur = next;
     }
+    words[last] = tail;
     Shared {
         words,
         cursor: cur,

@@ -3,21 +3,28 @@ use mathlib.Core.Path.{refl}
 use Prim.Native.Nat.{_-_}
 use lib.ListN.{take}
 use Rattle.draws.specs.Draws.{run}
+use Rattle.shares.specs.Sharing.{arithmetic}
 use Rattle.shares.specs.Refresh.{refresh}
 use Rattle.shares.proofs.ArraysLaws.{held-at, whole, cut-off}
-use Rattle.shares.proofs.TurnLaws.{Left, left-start, left-none, left-ended, left-draw, left-first, left-more}
-use Rattle.shares.specs.Sharing.{arithmetic}
+use Rattle.shares.proofs.TurnLaws.{Left, left-start, left-words, left-none, left-ended, left-draw, left-more}
 use Rattle.shares.proofs.arithmetic.refresh.Statement.{statement}
 use Rattle.shares.proofs.arithmetic.refresh.Tie as tie
 
 abbrev Inv-loop : tie.InvT-loop
-Inv-loop n m tape words₀ cur₀ last i₀ words cur i = Left (arithmetic m) 8 n tape (run (refresh (arithmetic m) (take n words₀)) tape cur₀) i words cur
+Inv-loop n m tape words₀ cur₀ last tail₀ i₀ words cur tail i =
+    Left (arithmetic m) 8 n tape (run (refresh (arithmetic m) (take n words₀)) tape cur₀) i words tail cur
 
 abbrev μ-loop : tie.MeasureT-loop
-μ-loop n m tape words₀ cur₀ last i₀ words cur i = last - i
+μ-loop n m tape words₀ cur₀ last tail₀ i₀ words cur tail i = last - i
 
 sub-last : tie.Need-sub-last Inv-loop μ-loop
 sub-last c = search needs
+
+mul-tail : tie.Need-mul-tail Inv-loop μ-loop
+mul-tail c = search needs
+
+array-read-tail : tie.Need-array-read-tail Inv-loop μ-loop
+array-read-tail c = search needs
 
 loop-holds : tie.Need-loop-holds Inv-loop μ-loop
 loop-holds c = left-start _ 8 _ _ _ _ (c .before .pre)
@@ -32,7 +39,9 @@ enum-told : tie.Need-enum-told Inv-loop μ-loop
 enum-told c = search needs
 
 returns : tie.Need-returns Inv-loop μ-loop
-returns c = let d = c .before .before in cut-off refl (left-ended (d .before .before .loop .inv) (d .before .loop-test .taken) _ (d .draw .ensures) (c .enum-told .given .1))
+returns c =
+    let d = c .before .before in
+    cut-off refl (left-ended (d .before .before .loop .inv) (d .before .loop-test .taken) _ (d .draw .ensures) (c .enum-told .given .1))
 
 mul-add-mod : tie.Need-mul-add-mod Inv-loop μ-loop
 mul-add-mod c = search needs
@@ -52,25 +61,12 @@ mul-words c = search needs
 array-write-words : tie.Need-array-write-words Inv-loop μ-loop
 array-write-words c = search needs
 
-mul-sub-mod : tie.Need-mul-sub-mod Inv-loop μ-loop
-mul-sub-mod c = search needs
-
-array-read-sub-mod : tie.Need-array-read-sub-mod Inv-loop μ-loop
-array-read-sub-mod c = search needs
-
 sub-mod-requires : tie.Need-sub-mod-requires Inv-loop μ-loop
 sub-mod-requires c κs =
     let g = c .before .before in
     let d = g .before .before in
     let l = d .before .before .loop .inv in
-    let h = d .before .loop-test .taken in
-    (held-at (left-first l h _ (d .draw .ensures) (g .r .given .1) (c .add-mod .ensures)) _, left-draw l h _ (d .draw .ensures) (g .r .given .1))
-
-mul-words-2 : tie.Need-mul-words-2 Inv-loop μ-loop
-mul-words-2 c = search needs
-
-array-write-words-2 : tie.Need-array-write-words-2 Inv-loop μ-loop
-array-write-words-2 c = search needs
+    (l .below, left-draw l (d .before .loop-test .taken) _ (d .draw .ensures) (g .r .given .1))
 
 add-i : tie.Need-add-i Inv-loop μ-loop
 add-i c = search needs
@@ -84,8 +80,14 @@ loop-again c =
     let d = g .before .before in
     left-more (d .before .before .loop .inv) (d .before .loop-test .taken) _ (d .draw .ensures) (g .r .given .1) (c .before .add-mod .ensures) (c .sub-mod .ensures)
 
+mul-words-2 : tie.Need-mul-words-2 Inv-loop μ-loop
+mul-words-2 c = search needs
+
+array-write-words-2 : tie.Need-array-write-words-2 Inv-loop μ-loop
+array-write-words-2 c = search needs
+
 returns-2 : tie.Need-returns-2 Inv-loop μ-loop
-returns-2 c = let l = c .before .loop .inv in whole refl (l .held .all) (left-none l (c .loop-test .left))
+returns-2 c = let l = c .before .loop .inv in whole refl (left-words l) (left-none l (c .loop-test .left))
 
 pub refresh-spec : {M : Type 1} → statement M
 refresh-spec =
@@ -94,6 +96,8 @@ refresh-spec =
     Inv-loop
     μ-loop
     sub-last
+    mul-tail
+    array-read-tail
     loop-holds
     draw-requires
     enum-known-r
@@ -104,12 +108,10 @@ refresh-spec =
     add-mod-requires
     mul-words
     array-write-words
-    mul-sub-mod
-    array-read-sub-mod
     sub-mod-requires
-    mul-words-2
-    array-write-words-2
     add-i
     loop-less
     loop-again
+    mul-words-2
+    array-write-words-2
     returns-2)

@@ -10,15 +10,16 @@ use Rattle.draws.specs.Draws.{run}
 use Rattle.shares.specs.Sharing.{boolean}
 use Rattle.shares.specs.Refresh.{refresh}
 use Rattle.shares.proofs.ArraysLaws.{whole, cut-off}
-use Rattle.shares.proofs.TurnLaws.{Left, left-start, left-none, left-ended, left-more}
+use Rattle.shares.proofs.TurnLaws.{Left, left-start, left-words, left-none, left-ended, left-more}
 use Rattle.shares.proofs.boolean.refresh_boolean.Statement.{statement}
 use Rattle.shares.proofs.boolean.refresh_boolean.Tie as tie
 
 abbrev Inv-loop : tie.InvT-loop
-Inv-loop n k tape m words₀ cur₀ last i₀ words cur i = Left (boolean k) 8 n tape (run (refresh (boolean k) (take n words₀)) tape cur₀) i words cur
+Inv-loop n k tape m words₀ cur₀ last tail₀ i₀ words cur tail i =
+    Left (boolean k) 8 n tape (run (refresh (boolean k) (take n words₀)) tape cur₀) i words tail cur
 
 abbrev μ-loop : tie.MeasureT-loop
-μ-loop n k tape m words₀ cur₀ last i₀ words cur i = last - i
+μ-loop n k tape m words₀ cur₀ last tail₀ i₀ words cur tail i = last - i
 
 -- a draw below m is one below 2^k
 told : (c : tie.After-draw Inv-loop μ-loop) →
@@ -31,6 +32,12 @@ power-requires c κs = search needs
 
 sub-last : tie.Need-sub-last Inv-loop μ-loop
 sub-last c = search needs
+
+mul-tail : tie.Need-mul-tail Inv-loop μ-loop
+mul-tail c = search needs
+
+array-read-tail : tie.Need-array-read-tail Inv-loop μ-loop
+array-read-tail c = search needs
 
 loop-holds : tie.Need-loop-holds Inv-loop μ-loop
 loop-holds c = left-start (boolean (c .before .before .args .k)) 8 _ _ _ _ (c .before .before .pre .1)
@@ -45,7 +52,9 @@ enum-told : tie.Need-enum-told Inv-loop μ-loop
 enum-told c = search needs
 
 returns : tie.Need-returns Inv-loop μ-loop
-returns c = let d = c .before .before in cut-off refl (left-ended (d .before .before .loop .inv) (d .before .loop-test .taken) _ (told d) (c .enum-told .given .1))
+returns c =
+    let d = c .before .before in
+    cut-off refl (left-ended (d .before .before .loop .inv) (d .before .loop-test .taken) _ (told d) (c .enum-told .given .1))
 
 mul-words : tie.Need-mul-words Inv-loop μ-loop
 mul-words c = search needs
@@ -58,18 +67,6 @@ mul-words-2 c = search needs
 
 array-write-words : tie.Need-array-write-words Inv-loop μ-loop
 array-write-words c = search needs
-
-mul-words-3 : tie.Need-mul-words-3 Inv-loop μ-loop
-mul-words-3 c = search needs
-
-array-read-words-2 : tie.Need-array-read-words-2 Inv-loop μ-loop
-array-read-words-2 c = search needs
-
-mul-words-4 : tie.Need-mul-words-4 Inv-loop μ-loop
-mul-words-4 c = search needs
-
-array-write-words-2 : tie.Need-array-write-words-2 Inv-loop μ-loop
-array-write-words-2 c = search needs
 
 add-i : tie.Need-add-i Inv-loop μ-loop
 add-i c = search needs
@@ -84,8 +81,14 @@ loop-again c =
     let d = g .before .before in
     left-more (d .before .before .loop .inv) (d .before .loop-test .taken) _ (told d) (g .r .given .1) refl refl
 
+mul-words-3 : tie.Need-mul-words-3 Inv-loop μ-loop
+mul-words-3 c = search needs
+
+array-write-words-2 : tie.Need-array-write-words-2 Inv-loop μ-loop
+array-write-words-2 c = search needs
+
 returns-2 : tie.Need-returns-2 Inv-loop μ-loop
-returns-2 c = let l = c .before .loop .inv in whole refl (l .held .all) (left-none l (c .loop-test .left))
+returns-2 c = let l = c .before .loop .inv in whole refl (left-words l) (left-none l (c .loop-test .left))
 
 pub refresh-boolean-spec : {M : Type 1} → statement M
 refresh-boolean-spec =
@@ -95,6 +98,8 @@ refresh-boolean-spec =
     μ-loop
     power-requires
     sub-last
+    mul-tail
+    array-read-tail
     loop-holds
     draw-requires
     enum-known-r
@@ -104,11 +109,9 @@ refresh-boolean-spec =
     array-read-words
     mul-words-2
     array-write-words
-    mul-words-3
-    array-read-words-2
-    mul-words-4
-    array-write-words-2
     add-i
     loop-less
     loop-again
+    mul-words-3
+    array-write-words-2
     returns-2)
