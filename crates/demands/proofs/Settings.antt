@@ -11,7 +11,7 @@ use Rattle.draws.specs.Plan.{Gives, feed, Fits, places}
 use Rattle.draws.specs.Anew.{merged, Marks, marksAfter, ExactlyOne}
 use Rattle.draws.proofs.PlanLaws.{Reads, reads-fit, planned-parts, always-run, always-feed, feed-bind, feed-map, FitBoth, fits-split}
 use Rattle.draws.proofs.MarksLaws.{marked-after, merged-after}
-use Rattle.draws.proofs.AnewLaws.{anew-run, anew-is, exactly-as}
+use Rattle.draws.proofs.AnewLaws.{anew-run, anew-is, anew-word, exactly-as}
 use Rattle.shares.specs.Sharing.{Sharing, bound, value}
 use Rattle.shares.specs.Refresh.{refresh, refreshPlan}
 use Rattle.shares.specs.Closing.{closingMarks, SameBut}
@@ -112,6 +112,7 @@ module _ {c : Claim} (s : Steps c) (shares tape out : List ℕ) where
         record {
           one-setting = one y (fits-split (c .draws n) (reads-fit y));
           nothing-else = λ us w. anew-is marks (n - 1) M (s .positive (v .range)) (s .word (v .range)) y are-closing us w;
+          still-words = λ us w. anew-word marks (n - 1) M (s .positive (v .range)) (s .word (v .range)) y are-closing us w;
         }
 
   pub settings : Settings c shares tape out

@@ -2,8 +2,8 @@
 -- makes a second input give the same other shares, opened numbers and count of words used.
 use mathlib.Core.Path.{_≡_}
 use mathlib.Core.List.{List}
-use Prim.Native.Nat.{ℕ, _-_, _<_}
-use lib.ListN.{length}
+use Prim.Native.Nat.{ℕ, _-_, _^_, _<_}
+use lib.ListN.{length, getD}
 use Rattle.numbers.specs.Lists.{Words}
 use Rattle.tape.specs.Tape.{start}
 use Rattle.draws.specs.Plan.{places}
@@ -37,6 +37,9 @@ pub record OneSetting (c : Claim) (shares tape out second room : List ℕ) (j : 
   -- and to set them anew changes the low L bits of the words that gave them, and nothing more
   pub nothing-else : (us : List ℕ) → Words (length shares - 1) (bound (c .gadget .output)) us →
       SetAnew (bound (c .gadget .output)) tape (closingPlaces c (length shares) tape) us (closingAnew c (length shares) tape us)
+  -- which leaves a tape of 32-bit words
+  pub still-words : (us : List ℕ) → Words (length shares - 1) (bound (c .gadget .output)) us → ((i : ℕ) → getD tape i 0 < 2 ^ 32) →
+      (i : ℕ) → getD (closingAnew c (length shares) tape us) i 0 < 2 ^ 32
 
 abbrev pub Settings : Claim → (shares tape out : List ℕ) → Type 0
 Settings c shares tape out =
