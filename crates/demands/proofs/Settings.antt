@@ -2,20 +2,24 @@
 use mathlib.Core.Path.{_≡_, refl, sym, ap, subst, _∙_}
 use mathlib.Core.Bool.{Bool}
 use mathlib.Core.List.{List, _++_}
-use Prim.Native.Nat.{ℕ, _-_, _<_}
-use lib.ListN.{length}
+use Prim.Native.Nat.{ℕ, _-_, _^_, _<_}
+use native.Mathlib.Omega.{arith}
+use lib.ListN.{length, length-replicate}
+use Rattle.numbers.specs.Bits.{bitsOf}
 use Rattle.numbers.specs.Lists.{Words}
+use Rattle.numbers.proofs.BitsLaws.{bits-smallest}
 use Rattle.tape.specs.Tape.{ran, start}
 use Rattle.draws.specs.Draws.{Draws, done, bind}
 use Rattle.draws.specs.Plan.{Gives, feed, Fits, places}
-use Rattle.draws.specs.Anew.{merged, Marks, marksAfter, ExactlyOne}
+use Rattle.draws.specs.Anew.{marked, merged, Marks, marksAfter, ExactlyOne}
 use Rattle.draws.proofs.PlanLaws.{Reads, reads-fit, planned-parts, always-run, always-feed, feed-bind, feed-map, FitBoth, fits-split}
-use Rattle.draws.proofs.MarksLaws.{marked-after, merged-after}
-use Rattle.draws.proofs.AnewLaws.{anew-run, anew-is, anew-word, exactly-as}
+use Rattle.draws.proofs.MarksLaws.{marked-after, marked-length, merged-after}
+use Rattle.draws.proofs.AnewLaws.{anew-run, anew-is, anew-word, exactly-as, exactly-up, reads-length}
+use Rattle.draws.proofs.HitLaws.{set-below}
 use Rattle.shares.specs.Sharing.{Sharing, bound, value}
 use Rattle.shares.specs.Refresh.{refresh, refreshPlan}
 use Rattle.shares.specs.Closing.{closingMarks, SameBut}
-use Rattle.shares.proofs.SettingLaws.{closing-marks, refresh-closes}
+use Rattle.shares.proofs.SettingLaws.{closing-marks, closing-plan, refresh-closes}
 use Rattle.gate.specs.Told.{Told, Outcome}
 use Rattle.gate.specs.Gadget.{closed, tells}
 use Rattle.demands.specs.Claim.{Claim, Valid, plan}
@@ -44,9 +48,11 @@ module _ {c : Claim} (s : Steps c) (shares tape out : List ℕ) where
   -- the closing draws are n - 1 draws below M
   are-closing : Marks marks (plan c n) (n - 1) M
   unfolding marks plan n M
-  are-closing = marked-after (c .draws (length shares)) (refreshPlan (c .gadget .output) (length shares)) (closingMarks (length shares)) ∙ closing-marks (c .gadget .output) (length shares)
+  are-closing =
+      marked-after (c .draws (length shares)) (c .draws (length shares)) (refreshPlan (c .gadget .output) (length shares)) (closingMarks (length shares)) refl
+      ∙ closing-marks (c .gadget .output) (length shares)
 
-  module _ (x : Succeeded c shares tape out) (second room : List ℕ) (v : Valid c second room) (same : length second ≡ length shares)
+  module _ (x : Succeeded c shares tape out) (second slice : List ℕ) (v : Valid c second slice) (same : length second ≡ length shares)
       (opens : c .opens (value (c .gadget .input) second) ≡ c .opens (value (c .gadget .input) shares)) (j : ℕ) (hj : j < length shares) where
     first-valid : Valid c shares out
     first-valid = passes-valid s (x .passes)
@@ -81,11 +87,11 @@ module _ {c : Claim} (s : Steps c) (shares tape out : List ℕ) where
       given : List ℕ → Outcome
       given us = record { opened = o .opened; shares = feed (refresh (c .gadget .output) (o .shares)) (merged (closingMarks n) (f .snd) us) }
 
-      told-on : (us : List ℕ) → Words (n - 1) M us → tells (c .gadget) second (closingAnew c n tape us) room ≡ success (given us) (x .place)
+      told-on : (us : List ℕ) → Words (n - 1) M us → tells (c .gadget) second (closingAnew c n tape us) slice ≡ success (given us) (x .place)
       unfolding closingAnew given o marks M
       told-on us w =
-          tells-success c second (closingAnew c n tape us) room (valid-passes s v)
-          (anew-run marks (n - 1) M (s .positive (v .range)) (s .word (v .range)) y are-closing us w (program c second) (gy .plan)
+          tells-success c second (closingAnew c n tape us) slice (valid-passes s v)
+          (anew-run marks (n - 1) M y are-closing us (s .positive (v .range)) (s .word (v .range)) w (program c second) (gy .plan)
           ∙ ap (λ z. ran z (x .place))
           (ap (λ (l : List ℕ). feed (program c second) (merged marks l us)) (f .all)
           ∙ ap (feed (program c second)) (merged-after (closingMarks n) (f .snd) us (f .fit-fst))
@@ -95,25 +101,42 @@ module _ {c : Claim} (s : Steps c) (shares tape out : List ℕ) where
       unfolding given
       works us t = record { succeeds = refl; shares = t; opened = as-claimed .opened ∙ opens ∙ sym (shown .opened); used = refl }
 
-      one : ExactlyOne (n - 1) M (λ us. SameTold n j (tells (c .gadget) second (closingAnew c n tape us) room) (tells (c .gadget) shares tape out))
+      one : ExactlyOne (n - 1) M (λ us. SameTold n j (tells (c .gadget) second (closingAnew c n tape us) slice) (tells (c .gadget) shares tape out))
       unfolding given M n
       one =
           exactly-as _
           (λ us w t. subst (λ (a : Told). SameTold n j a (tells (c .gadget) shares tape out)) (sym (told-on us w))
           (subst (SameTold n j (success (given us) (x .place))) (sym (x .told-so)) (works us t)))
           (λ us w t. subst (λ (a : Told). SameBut n j (a .out) (x .outcome .shares)) (told-on us w)
-          (subst (λ (a : Told). SameBut n j (tells (c .gadget) second (closingAnew c n tape us) room .out) (a .out)) (x .told-so) (t .shares)))
+          (subst (λ (a : Told). SameBut n j (tells (c .gadget) second (closingAnew c n tape us) slice .out) (a .out)) (x .told-so) (t .shares)))
           (refresh-closes (c .gadget .output) (s .positive (v .range)) n (o .shares) (x .outcome .shares) (as-claimed .words) (shown .words) j hj (f .snd) (f .fit-snd))
 
-    one-setting : OneSetting c shares tape out second room j
+    -- a setting with which the second input gives the same count of words has only numbers below M
+    below : {rs : List ℕ} → Reads tape (plan c n) start rs (places (plan c n) tape start) (x .place) → (us : List ℕ) → Words (n - 1) (2 ^ bitsOf M) us →
+        SameTold n j (tells (c .gadget) second (closingAnew c n tape us) slice) (tells (c .gadget) shares tape out) → Words (n - 1) M us
+    unfolding closingAnew marks plan M
+    below {rs} y us w t =
+        let z = succeeded c second (closingAnew c n tape us) slice (t .succeeds) in
+        let (os, r, _) = planned-parts (gy .plan) (closingAnew c n tape us) start (z .ran-to) in
+        let used : z .place .at ≡ x .place .at =
+        sym (ap (λ (a : Told). a .used) (z .told-so)) ∙ t .used ∙ ap (λ (a : Told). a .used) (x .told-so) in
+        let (k, e) = closing-plan (c .gadget .output) n in
+        let size : length (marked marks (places (plan c n) tape start)) ≡ length us =
+        marked-length marks (places (plan c n) tape start) (plan c n) (reads-length y) ∙ ap length are-closing ∙ length-replicate (n - 1) M ∙ sym (w .size) in
+        subst (λ (m : ℕ). Words m M us) (w .size)
+        (set-below (c .draws n) k M (closingMarks n) (subst (λ (l : List ℕ). Reads tape (c .draws n ++ l) start rs (places (plan c n) tape start) (x .place)) e y)
+        (omega arith) (anew-is marks (n - 1) M y are-closing us w) size
+        (subst (λ (l : List ℕ). Reads (closingAnew c n tape us) (c .draws n ++ l) start os (places (plan c n) (closingAnew c n tape us) start) (z .place)) e r) used)
+
+    one-setting : OneSetting c shares tape out second slice j
     unfolding closingPlaces closingAnew n M marks plan
     one-setting =
         let (rs, y, e) = planned-parts (gx .plan) tape start (x .ran-to) in
         record {
-          one-setting = one y (fits-split (c .draws n) (reads-fit y));
-          nothing-else = λ us w. anew-is marks (n - 1) M (s .positive (v .range)) (s .word (v .range)) y are-closing us w;
-          still-words = λ us w. anew-word marks (n - 1) M (s .positive (v .range)) (s .word (v .range)) y are-closing us w;
+          one-setting = exactly-up (bits-smallest M (s .positive (v .range)) (s .word (v .range)) .holds) (below y) (one y (fits-split (c .draws n) (reads-fit y)));
+          nothing-else = λ us w. anew-is marks (n - 1) M y are-closing us w;
+          still-words = λ us w. anew-word marks (n - 1) M y are-closing us w;
         }
 
   pub settings : Settings c shares tape out
-  settings e second room v same opens j h = one-setting (succeeded c shares tape out e) second room v same opens j h
+  settings e second slice v same opens j h = one-setting (succeeded c shares tape out e) second slice v same opens j h

@@ -4,6 +4,7 @@ use mathlib.Core.Path.{_≡_}
 use mathlib.Core.List.{List}
 use Prim.Native.Nat.{ℕ, _-_, _^_, _<_}
 use lib.ListN.{length, getD}
+use Rattle.numbers.specs.Bits.{bitsOf}
 use Rattle.numbers.specs.Lists.{Words}
 use Rattle.tape.specs.Tape.{start}
 use Rattle.draws.specs.Plan.{places}
@@ -29,20 +30,24 @@ closingPlaces c n tape = marked (marksAfter (c .draws n) (closingMarks n)) (plac
 unfoldable pub closingAnew : Claim → ℕ → List ℕ → List ℕ → List ℕ
 closingAnew c n tape us = anew (marksAfter (c .draws n) (closingMarks n)) (bound (c .gadget .output)) (plan c n) tape start us
 
+-- a number is put into the low L bits of a word that gave a closing draw, so it is below this
+abbrev pub closingBits : Claim → ℕ
+closingBits c = 2 ^ bitsOf (bound (c .gadget .output))
+
 -- for a first input on a tape on which it succeeds, a second one, and any share j to leave out
-pub record OneSetting (c : Claim) (shares tape out second room : List ℕ) (j : ℕ) : Type 0 where
+pub record OneSetting (c : Claim) (shares tape out second slice : List ℕ) (j : ℕ) : Type 0 where
   pub one-setting :
-      ExactlyOne (length shares - 1) (bound (c .gadget .output)) (λ us.
-      SameTold (length shares) j (tells (c .gadget) second (closingAnew c (length shares) tape us) room) (tells (c .gadget) shares tape out))
+      ExactlyOne (length shares - 1) (closingBits c) (λ us.
+      SameTold (length shares) j (tells (c .gadget) second (closingAnew c (length shares) tape us) slice) (tells (c .gadget) shares tape out))
   -- and to set them anew changes the low L bits of the words that gave them, and nothing more
-  pub nothing-else : (us : List ℕ) → Words (length shares - 1) (bound (c .gadget .output)) us →
+  pub nothing-else : (us : List ℕ) → Words (length shares - 1) (closingBits c) us →
       SetAnew (bound (c .gadget .output)) tape (closingPlaces c (length shares) tape) us (closingAnew c (length shares) tape us)
   -- which leaves a tape of 32-bit words
-  pub still-words : (us : List ℕ) → Words (length shares - 1) (bound (c .gadget .output)) us → ((i : ℕ) → getD tape i 0 < 2 ^ 32) →
+  pub still-words : (us : List ℕ) → Words (length shares - 1) (closingBits c) us → ((i : ℕ) → getD tape i 0 < 2 ^ 32) →
       (i : ℕ) → getD (closingAnew c (length shares) tape us) i 0 < 2 ^ 32
 
 abbrev pub Settings : Claim → (shares tape out : List ℕ) → Type 0
 Settings c shares tape out =
-    tells (c .gadget) shares tape out .number ≡ 0 → (second room : List ℕ) → Valid c second room → length second ≡ length shares →
+    tells (c .gadget) shares tape out .number ≡ 0 → (second slice : List ℕ) → Valid c second slice → length second ≡ length shares →
     c .opens (value (c .gadget .input) second) ≡ c .opens (value (c .gadget .input) shares) → (j : ℕ) → j < length shares →
-    OneSetting c shares tape out second room j
+    OneSetting c shares tape out second slice j

@@ -12,13 +12,13 @@ use lib.Seq.{getD-set-same, getD-set-other, set-out, ext-getD}
 use Rattle.numbers.specs.Bits.{bitsOf}
 use Rattle.numbers.specs.Lists.{Words}
 use Rattle.numbers.proofs.BitsLaws.{bits-smallest}
-use Rattle.numbers.proofs.WordsLaws.{words-head, words-tail}
+use Rattle.numbers.proofs.WordsLaws.{words-head, words-tail, words-up}
 use Rattle.tape.specs.declared.Cursor.{Cursor}
 use Rattle.tape.specs.Tape.{ran, lowBits}
 use Rattle.draws.specs.Draws.{Draws, run}
 use Rattle.draws.specs.Plan.{Plan, feed, places, skipped}
 use Rattle.draws.specs.Anew.{highBits, withLow, setAt, marked, merged, Marks, anew, Among, Same, SetAnew, ExactlyOne}
-use Rattle.draws.proofs.DrawnLaws.{Drawn, drawn-moves, drawn-gave, drawn-reads, drawn-anew, same-within, with-high}
+use Rattle.draws.proofs.DrawnLaws.{Drawn, drawn-moves, drawn-gave, drawn-reads, drawn-anew, same-within, with-low, with-high}
 use Rattle.draws.proofs.PlanLaws.{Reads, none, one, reads-run, reads-places, reads-fit, fits-length, one-skipped, planned-ran}
 use Rattle.draws.proofs.MarksLaws.{among-marked, marked-length, marked-merged}
 
@@ -43,11 +43,11 @@ set-at-other M tape (w ∷ ws) (r ∷ rs) i n =
     ∙ getD-set-other tape w i x 0 (λ e. n (0, suc-le-suc (omega arith), sym e))
 
 -- the high bits of every word stay
-set-at-high : (M : ℕ) (tape ws rs : List ℕ) → M ≤ 2 ^ bitsOf M → Words (length ws) M rs → (i : ℕ) → highBits M (getD (setAt M tape ws rs) i 0) ≡ highBits M (getD tape i 0)
+set-at-high : (M : ℕ) (tape ws rs : List ℕ) → Words (length ws) (2 ^ bitsOf M) rs → (i : ℕ) → highBits M (getD (setAt M tape ws rs) i 0) ≡ highBits M (getD tape i 0)
 unfolding setAt
-set-at-high M tape [] rs f v i = refl
-set-at-high M tape (w ∷ ws) [] f v i = refl
-set-at-high M tape (w ∷ ws) (r ∷ rs) f v i = set-at-high M (set tape w x) ws rs f (words-tail v) i ∙ here (ℕ-discrete i w) (decLt w (length tape))
+set-at-high M tape [] rs v i = refl
+set-at-high M tape (w ∷ ws) [] v i = refl
+set-at-high M tape (w ∷ ws) (r ∷ rs) v i = set-at-high M (set tape w x) ws rs (words-tail v) i ∙ here (ℕ-discrete i w) (decLt w (length tape))
   where
     x : ℕ
     x = withLow M (getD tape w 0) r
@@ -56,20 +56,39 @@ set-at-high M tape (w ∷ ws) (r ∷ rs) f v i = set-at-high M (set tape w x) ws
     here (no n) l = ap (highBits M) (getD-set-other tape w i x 0 n)
     here (yes e) (no n) = ap (λ (t : List ℕ). highBits M (getD t i 0)) (set-out tape w x (omega arith))
     here (yes e) (yes l) =
-        rw e (ap (highBits M) (getD-set-same tape w x 0 l) ∙ with-high M (getD tape w 0) r (omega (arith, words-head v)))
+        rw e (ap (highBits M) (getD-set-same tape w x 0 l) ∙ with-high M (getD tape w 0) r (words-head v))
+
+-- no place comes twice
+data Distinct : List ℕ → Type 0 where
+  no-place : Distinct []
+  and-place : {w : ℕ} {ws : List ℕ} → ¬ (Among w ws) → Distinct ws → Distinct (w ∷ ws)
+
+-- the low bits of the words at those places are what was put there
+set-at-low : (M : ℕ) (tape ws rs : List ℕ) → Distinct ws → ((i : ℕ) → Among i ws → i < length tape) → Words (length ws) (2 ^ bitsOf M) rs →
+    (a : ℕ) → a < length ws → lowBits M (getD (setAt M tape ws rs) (getD ws a 0) 0) ≡ getD rs a 0
+unfolding setAt
+set-at-low M tape [] rs d l v a h = absurd (omega arith)
+set-at-low M tape (w ∷ ws) [] d l v a h = absurd (omega (arith, v .size))
+set-at-low M tape (w ∷ ws) (r ∷ rs) (and-place n d) l v zero h =
+    let x : ℕ = withLow M (getD tape w 0) r in
+    let o : w < length tape = l w (0, h, refl) in
+    ap (lowBits M) (set-at-other M (set tape w x) ws rs w n ∙ getD-set-same tape w x 0 o) ∙ with-low M (getD tape w 0) r (words-head v)
+set-at-low M tape (w ∷ ws) (r ∷ rs) (and-place n d) l v (suc a) h =
+    let x : ℕ = withLow M (getD tape w 0) r in
+    set-at-low M (set tape w x) ws rs d (λ i b. omega (arith, length-set tape w x, l i (suc (b .0), suc-le-suc (b .1), b .2))) (words-tail v) a (le-of-suc-le-suc h)
 
 -- ---- the places of a plan that is read
 
-reads-length : {tape ms : List ℕ} {p : Cursor} {rs ws : List ℕ} {q : Cursor} → Reads tape ms p rs ws q → length ws ≡ length ms
+pub reads-length : {tape ms : List ℕ} {p : Cursor} {rs ws : List ℕ} {q : Cursor} → Reads tape ms p rs ws q → length ws ≡ length ms
 reads-length none = refl
 reads-length (one a x) = ap suc (reads-length x)
 
-reads-moves : {tape ms : List ℕ} {p : Cursor} {rs ws : List ℕ} {q : Cursor} → Reads tape ms p rs ws q → p .at ≤ q .at
+pub reads-moves : {tape ms : List ℕ} {p : Cursor} {rs ws : List ℕ} {q : Cursor} → Reads tape ms p rs ws q → p .at ≤ q .at
 reads-moves none = omega arith
 reads-moves (one a x) = omega (arith, drawn-moves a .0, reads-moves x)
 
 -- and past the tape's end nothing is read
-reads-within-tape : {tape ms : List ℕ} {p : Cursor} {rs ws : List ℕ} {q : Cursor} → Reads tape ms p rs ws q → p .at ≤ length tape → q .at ≤ length tape
+pub reads-within-tape : {tape ms : List ℕ} {p : Cursor} {rs ws : List ℕ} {q : Cursor} → Reads tape ms p rs ws q → p .at ≤ length tape → q .at ≤ length tape
 reads-within-tape none h = h
 reads-within-tape (one a x) h = reads-within-tape x (drawn-moves a .1)
 
@@ -91,18 +110,21 @@ reads-same (one {p = p} {s = u} {q = q} a x) h =
     one (drawn-reads a (same-within (p .at) (u .at) (omega arith) y h))
     (reads-same x (same-within (u .at) (q .at) (omega arith) (omega arith) h))
 
--- the low bits of the words at the marked places are the marked draws
-reads-gave : {tape ms : List ℕ} {p : Cursor} {rs ws : List ℕ} {q : Cursor} → Reads tape ms p rs ws q → (bs : List Bool) (k M : ℕ) → Marks bs ms k M → (a : ℕ) → a < k →
-    lowBits M (getD tape (getD (marked bs ws) a 0) 0) ≡ getD (marked bs rs) a 0
+-- and no place comes twice, nor lies past the tape's end
+reads-distinct : {tape ms : List ℕ} {p : Cursor} {rs ws : List ℕ} {q : Cursor} → Reads tape ms p rs ws q → (bs : List Bool) → Distinct (marked bs ws)
 unfolding marked
-reads-gave x [] k M mk a h = absurd (omega (arith, ap length mk, length-replicate k M))
-reads-gave none (b ∷ bs) k M mk a h = absurd (omega (arith, ap length mk, length-replicate k M))
-reads-gave (one y x) (false ∷ bs) k M mk a h = reads-gave x bs k M mk a h
-reads-gave (one y x) (true ∷ bs) zero M mk a h = absurd (omega arith)
-reads-gave {tape} (one {M = m} {r = r} {s = s} y x) (true ∷ bs) (suc k) M mk zero h =
-    let e : m ≡ M = cc in
-    subst (λ (j : ℕ). lowBits j (getD tape (s .at - 1) 0) ≡ r) e (drawn-gave y)
-reads-gave (one {ms = ms} y x) (true ∷ bs) (suc k) M mk (suc a) h = let e : marked bs ms ≡ replicate k M = cc in reads-gave x bs k M e a (le-of-suc-le-suc h)
+reads-distinct x [] = no-place
+reads-distinct none (b ∷ bs) = no-place
+reads-distinct (one a x) (false ∷ bs) = reads-distinct x bs
+reads-distinct (one {s = s} {ws = ws} a x) (true ∷ bs) =
+    let o = drawn-moves a in
+    let n : ¬ (Among (s .at - 1) (marked bs ws)) = λ y. let w = reads-within x (s .at - 1) (among-marked bs ws (s .at - 1) y) in omega arith in
+    and-place n (reads-distinct x bs)
+
+pub reads-on-tape : {tape ms : List ℕ} {p : Cursor} {rs ws : List ℕ} {q : Cursor} → Reads tape ms p rs ws q → (i : ℕ) → Among i ws → i < length tape
+reads-on-tape none i (a, l, e) = absurd (omega arith)
+reads-on-tape (one a x) i (zero, l, e) = let o = drawn-moves a in omega (arith, e)
+reads-on-tape (one a x) i (suc b, l, e) = reads-on-tape x i (b, le-of-suc-le-suc l, e)
 
 -- ---- marked draws, set anew one after another
 
@@ -142,7 +164,7 @@ set-marked M f (true ∷ bs) (suc k) {tape} {p = p} (one {M = m} {ms = ms} {r = 
 
 -- ---- the places and what is put there decide the tape
 
-among : (i : ℕ) (ws : List ℕ) → Dec (Among i ws)
+pub among : (i : ℕ) (ws : List ℕ) → Dec (Among i ws)
 among i [] = no (λ a. let h = a .1 in omega arith)
 among i (w ∷ ws) = go (ℕ-discrete w i) (among i ws)
   where
@@ -180,47 +202,47 @@ high-word M v w e h =
     let b : (32 - bitsOf M) + bitsOf M ≡ 32 = omega arith in
     subst (λ (n : ℕ). v < 2 ^ n) b (high-under (32 - bitsOf M) (bitsOf M) v w e (subst (λ (n : ℕ). w < 2 ^ n) (sym b) h))
 
--- ---- the marked ones of the draws ms, which are k draws below M, set anew to us, on a tape on which the draws ms gave rs and ended at q
-module _ (bs : List Bool) (k M : ℕ) (h : 0 < M) (l : M ≤ 2 ^ 32) {tape ms : List ℕ} {p : Cursor} {rs : List ℕ} {q : Cursor}
-    (x : Reads tape ms p rs (places ms tape p) q) (mk : Marks bs ms k M) (us : List ℕ) (w : Words k M us) where
-  -- the marked draws are us, the others as they were, and every place stays
-  pub anew-reads : Reads (anew bs M ms tape p us) ms p (merged bs rs us) (places ms tape p) q
-  unfolding anew
-  anew-reads = set-marked M (bits-smallest M h l .holds) bs k x mk us w
+-- ---- the marked ones of the draws ms, which are k draws below M, set anew, on a tape on which the draws ms gave rs and ended at q
+module _ (bs : List Bool) (k M : ℕ) {tape ms : List ℕ} {p : Cursor} {rs : List ℕ} {q : Cursor} (x : Reads tape ms p rs (places ms tape p) q) (mk : Marks bs ms k M) (us : List ℕ) where
+  -- to any numbers of L bits: nothing but the low bits of the words that gave the marked draws is changed
+  module _ (w : Words k (2 ^ bitsOf M) us) where
+    pub anew-is : SetAnew M tape (marked bs (places ms tape p)) us (anew bs M ms tape p us)
+    unfolding anew
+    anew-is =
+        let ws : List ℕ = marked bs (places ms tape p) in
+        let e : length ws ≡ k = marked-length bs (places ms tape p) ms (reads-length x) ∙ ap length mk ∙ length-replicate k M in
+        let v : Words (length ws) (2 ^ bitsOf M) us = rw e w in
+        record {
+          size = set-at-length M tape ws us;
+          others = set-at-other M tape ws us;
+          high = set-at-high M tape ws us v;
+          low = set-at-low M tape ws us (reads-distinct x bs) (λ i b. reads-on-tape x i (among-marked bs (places ms tape p) i b)) v;
+        }
 
-  pub anew-places : places ms (anew bs M ms tape p us) p ≡ places ms tape p
-  anew-places = reads-places anew-reads
+    -- and no other tape has those bits changed alone
+    pub anew-only : (t : List ℕ) → SetAnew M tape (marked bs (places ms tape p)) us t → t ≡ anew bs M ms tape p us
+    anew-only t o = set-anew-unique o anew-is
 
-  -- so a program with that plan gives what it gives when it is fed those numbers, and ends where it did
-  pub anew-run : {A : Type 0} (e : Draws A) → Plan e ms → run e (anew bs M ms tape p us) p ≡ ran (feed e (merged bs rs us)) q
-  anew-run e g = planned-ran g (anew bs M ms tape p us) p (reads-run anew-reads)
+    -- a tape of 32-bit words stays one
+    pub anew-word : ((i : ℕ) → getD tape i 0 < 2 ^ 32) → (i : ℕ) → getD (anew bs M ms tape p us) i 0 < 2 ^ 32
+    anew-word f i = high-word M (getD (anew bs M ms tape p us) i 0) (getD tape i 0) (anew-is .high i) (f i)
 
-  -- as many words are skipped
-  pub anew-skipped : skipped ms (anew bs M ms tape p us) p ≡ skipped ms tape p
-  anew-skipped = one-skipped anew-reads x
+  -- to numbers below M: the marked draws are us, the others as they were, and every place stays
+  module _ (h : 0 < M) (l : M ≤ 2 ^ 32) (w : Words k M us) where
+    pub anew-reads : Reads (anew bs M ms tape p us) ms p (merged bs rs us) (places ms tape p) q
+    unfolding anew
+    anew-reads = set-marked M (bits-smallest M h l .holds) bs k x mk us w
 
-  -- nothing but the low bits of the words that gave the marked draws is changed
-  pub anew-is : SetAnew M tape (marked bs (places ms tape p)) us (anew bs M ms tape p us)
-  unfolding anew
-  anew-is =
-      let ws : List ℕ = marked bs (places ms tape p) in
-      let e : length (marked bs ms) ≡ k = ap length mk ∙ length-replicate k M in
-      let size : length ws ≡ k = marked-length bs (places ms tape p) ms (reads-length x) ∙ e in
-      let draws : length (marked bs rs) ≡ length us = marked-length bs rs ms (fits-length (reads-fit x)) ∙ e ∙ sym (w .size) in
-      record {
-        size = set-at-length M tape ws us;
-        others = set-at-other M tape ws us;
-        high = set-at-high M tape ws us (bits-smallest M h l .holds) (rw size w);
-        low = λ a o. reads-gave anew-reads bs k M mk a (omega (arith, size)) ∙ ap (λ (vs : List ℕ). getD vs a 0) (marked-merged bs rs us draws);
-      }
+    pub anew-places : places ms (anew bs M ms tape p us) p ≡ places ms tape p
+    anew-places = reads-places anew-reads
 
-  -- and no other tape has those bits changed alone
-  pub anew-only : (t : List ℕ) → SetAnew M tape (marked bs (places ms tape p)) us t → t ≡ anew bs M ms tape p us
-  anew-only t o = set-anew-unique o anew-is
+    -- so a program with that plan gives what it gives when it is fed those numbers, and ends where it did
+    pub anew-run : {A : Type 0} (e : Draws A) → Plan e ms → run e (anew bs M ms tape p us) p ≡ ran (feed e (merged bs rs us)) q
+    anew-run e g = planned-ran g (anew bs M ms tape p us) p (reads-run anew-reads)
 
-  -- a tape of 32-bit words stays one
-  pub anew-word : ((i : ℕ) → getD tape i 0 < 2 ^ 32) → (i : ℕ) → getD (anew bs M ms tape p us) i 0 < 2 ^ 32
-  anew-word f i = high-word M (getD (anew bs M ms tape p us) i 0) (getD tape i 0) (anew-is .high i) (f i)
+    -- as many words are skipped
+    pub anew-skipped : skipped ms (anew bs M ms tape p us) p ≡ skipped ms tape p
+    anew-skipped = one-skipped anew-reads x
 
 -- exactly one list has Q where exactly one has P and, among lists of k numbers below M, the two say the same
 pub exactly-as : {k M : ℕ} {P : List ℕ → Type 0} (Q : List ℕ → Type 0) →
@@ -231,4 +253,14 @@ exactly-as Q f g e =
       words = e .words;
       works = f (e .setting) (e .words) (e .works);
       only = λ rs w u. e .only rs w (g rs w u);
+    }
+
+-- exactly one has Q among the lists of k numbers below N too, if those that have it are below M
+pub exactly-up : {k M N : ℕ} {Q : List ℕ → Type 0} → M ≤ N → ((rs : List ℕ) → Words k N rs → Q rs → Words k M rs) → ExactlyOne k M Q → ExactlyOne k N Q
+exactly-up h f e =
+    record {
+      setting = e .setting;
+      words = words-up h (e .words);
+      works = e .works;
+      only = λ rs w u. e .only rs (f rs w u) u;
     }

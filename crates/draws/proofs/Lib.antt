@@ -3,3 +3,4 @@ pub mod DrawnLaws
 pub mod PlanLaws
 pub mod MarksLaws
 pub mod AnewLaws
+pub mod HitLaws

@@ -23,10 +23,12 @@ all-merged (suc k) [] us e h = absurd (omega arith)
 all-merged (suc k) (r ∷ rs) [] e h = absurd (omega arith)
 all-merged (suc k) (r ∷ rs) (u ∷ us) e h = ap (u ∷_) (all-merged k rs us (omega arith) (omega arith))
 
-pub marked-after : (ms ks : List ℕ) (bs : List Bool) → marked (marksAfter ms bs) (ms ++ ks) ≡ marked bs ks
+pub marked-after : (ms xs ys : List ℕ) (bs : List Bool) → length xs ≡ length ms → marked (marksAfter ms bs) (xs ++ ys) ≡ marked bs ys
 unfolding marked marksAfter
-marked-after [] ks bs = refl
-marked-after (M ∷ ms) ks bs = marked-after ms ks bs
+marked-after [] [] ys bs e = refl
+marked-after [] (x ∷ xs) ys bs e = absurd (omega arith)
+marked-after (m ∷ ms) [] ys bs e = absurd (omega arith)
+marked-after (m ∷ ms) (x ∷ xs) ys bs e = marked-after ms xs ys bs (omega arith)
 
 pub merged-after : {ms r : List ℕ} (bs : List Bool) (rs us : List ℕ) → Fits ms r → merged (marksAfter ms bs) (r ++ rs) us ≡ r ++ merged bs rs us
 unfolding merged marksAfter

@@ -1,7 +1,7 @@
 -- Laws of lists of words below M.
 use mathlib.Core.Path.{_≡_, refl, sym, ap, _∙_}
 use mathlib.Core.List.{List, [], _∷_}
-use Prim.Native.Nat.{ℕ, zero, suc, _<_, suc-le-suc}
+use Prim.Native.Nat.{ℕ, zero, suc, _≤_, _<_, suc-le-suc}
 use native.Mathlib.Nat.{le-of-suc-le-suc}
 use native.Mathlib.Omega.{arith}
 use native.Mathlib.Decide.{decLt, ℕ-discrete}
@@ -29,6 +29,9 @@ words-set {n} {M} {xs} w i {v} h = record { size = length-set xs i v ∙ w .size
     go : (j : ℕ) → j < n → Dec (j ≡ i) → getD (set xs i v) j 0 < M
     go j l (yes e) = let x : getD (set xs i v) i 0 ≡ v = getD-set-same xs i v 0 (omega (arith, w .size)) in rw (e, x) h
     go j l (no e) = rw (getD-set-other xs i j v 0 e) (w .below j l)
+
+pub words-up : {n M N : ℕ} {xs : List ℕ} → M ≤ N → Words n M xs → Words n N xs
+words-up h w = record { size = w .size; below = λ i l. omega (arith, w .below i l) }
 
 pub words-same : {n M v : ℕ} → v < M → Words n M (replicate n v)
 words-same {n} {v = v} h = record { size = length-replicate n v; below = λ i l. rw (getD-replicate n i v 0 l) h }

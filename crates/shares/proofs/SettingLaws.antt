@@ -203,6 +203,11 @@ pub closing-marks : (s : Sharing) (n : ℕ) → Marks (closingMarks n) (refreshP
 unfolding refreshPlan closingMarks
 closing-marks s n = all-marked (n - 1) (bound s)
 
+-- all draws of a refresh are below one modulus
+pub closing-plan : (s : Sharing) (n : ℕ) → (k : ℕ) × (refreshPlan s n ≡ replicate k (bound s))
+unfolding refreshPlan
+closing-plan s n = (n - 1, refl)
+
 -- whatever rs the draws of a refresh of ys gave, exactly one list of numbers in place of them leads to zs but for share j
 pub refresh-closes : (s : Sharing) → 0 < bound s → (n : ℕ) (ys zs : List ℕ) → Words n (bound s) ys → Words n (bound s) zs → (j : ℕ) → j < n →
     (rs : List ℕ) → Fits (refreshPlan s n) rs → ExactlyOne (n - 1) (bound s) (λ us. SameBut n j (feed (refresh s ys) (merged (closingMarks n) rs us)) zs)
