@@ -8,11 +8,11 @@ use lib.ListN.{length}
 use Rattle.tape.specs.declared.Cursor.{Cursor}
 use Rattle.tape.specs.Tape.{Ran, ended, ran, start}
 use Rattle.draws.specs.Draws.{Draws, run}
-use Rattle.draws.specs.Plan.{Gives}
+use Rattle.draws.proofs.Outcomes.{Gives}
 use Rattle.shares.specs.Sharing.{bound}
 use Rattle.gate.specs.Told.{Told, refusal, Outcome, ranTold}
 use Rattle.gate.specs.Gadget.{closed, checkNumber, tells}
-use Rattle.gate.proofs.CheckLaws.{passed, fails-none, inside-yes, words-below}
+use Rattle.gate.proofs.CheckLaws.{all-passed, fails-none, inside-yes, words-below}
 use Rattle.gate.proofs.GadgetLaws.{tells-passed, tells-refused}
 use Rattle.demands.specs.Claim.{Claim, Valid, plan}
 use Rattle.demands.proofs.Steps.{Claimed, Steps, closed-give}
@@ -32,7 +32,7 @@ module _ {c : Claim} (s : Steps c) {shares out : List ℕ} where
   pub passes-valid : checkNumber (c .gadget) shares out ≡ 0 → Valid c shares out
   unfolding checkNumber
   passes-valid e =
-      let p = passed shares (length out) (c .gadget .inRange) (bound (c .gadget .input)) e in
+      let p = all-passed shares (length out) (c .gadget .inRange) (bound (c .gadget .input)) e in
       record { counted = (p .least, p .most); room = p .fits; range = s .in-range (p .range); below = p .below }
 
   pub valid-gives : Valid c shares out → Gives (Claimed c (length shares) shares) (program c shares) (plan c (length shares))

@@ -10,8 +10,9 @@ use Rattle.numbers.specs.Lists.{Words}
 use Rattle.numbers.proofs.BitsLaws.{bits-smallest}
 use Rattle.tape.specs.Tape.{ran, start}
 use Rattle.draws.specs.Draws.{Draws, done, bind}
-use Rattle.draws.specs.Plan.{Gives, feed, Fits, places}
-use Rattle.draws.specs.Anew.{marked, merged, Marks, marksAfter, ExactlyOne}
+use Rattle.draws.specs.Plan.{places}
+use Rattle.draws.specs.Anew.{marked, marksAfter, ExactlyOne}
+use Rattle.draws.proofs.Outcomes.{Gives, feed, Fits, merged, Marks}
 use Rattle.draws.proofs.PlanLaws.{Reads, reads-fit, planned-parts, always-run, always-feed, feed-bind, feed-map, FitBoth, fits-split}
 use Rattle.draws.proofs.MarksLaws.{marked-after, marked-length, merged-after}
 use Rattle.draws.proofs.AnewLaws.{anew-run, anew-is, anew-word, exactly-as, exactly-up, reads-length}

@@ -4,8 +4,9 @@ use mathlib.Core.Bool.{true}
 use mathlib.Core.List.{List}
 use Prim.Native.Nat.{ℕ, _^_, _≤_, _<_}
 use native.Mathlib.Omega.{arith}
+use lib.ListN.{length}
 use Rattle.numbers.specs.Lists.{Words}
-use Rattle.draws.specs.Plan.{Gives}
+use Rattle.draws.proofs.Outcomes.{Gives}
 use Rattle.draws.proofs.PlanLaws.{gives-bind, gives-map}
 use Rattle.shares.specs.Sharing.{Sharing, bound, value}
 use Rattle.shares.specs.Refresh.{refreshPlan}
@@ -27,6 +28,8 @@ pub record Steps (c : Claim) : Type 0 where
   -- the output's modulus, or 2 to its width, is a word's
   pub positive : c .InRange → 0 < bound (c .gadget .output)
   pub word : c .InRange → bound (c .gadget .output) ≤ 2 ^ 32
+  -- as many numbers are opened as a refusal has zeros
+  pub opens-fields : (x : ℕ) → length (c .opens x) ≡ c .gadget .fields
   -- the steps make the claimed draws, and whatever these give, the outcome is as claimed
   pub give : c .InRange → (n : ℕ) → 2 ≤ n → n ≤ 8 → (xs : List ℕ) → Words n (bound (c .gadget .input)) xs →
       Gives (Claimed c n xs) (c .gadget .steps xs) (c .draws n)

@@ -2,11 +2,16 @@
 use mathlib.Core.Path.{_≡_}
 use mathlib.Core.List.{[]}
 use Prim.Native.Nat.{ℕ, _≤_}
+use Rattle.gate.specs.Gadget.{Gadget}
 use Rattle.gadgets.specs.Refresh.{refreshGadget, booleanGadget}
 use Rattle.demands.specs.Claim.{Claim}
 
+-- no draws before the closing refresh, nothing opened, and the value kept
+abbrev pub refreshes : Gadget → Type 0 → Claim
+refreshes g InRange = record { gadget = g; InRange = InRange; draws = λ n. []; opens = λ x. []; Plain = λ x y. y ≡ x }
+
 abbrev pub refreshClaim : ℕ → Claim
-refreshClaim M = record { gadget = refreshGadget M; InRange = (2 ≤ M) × (M ≤ 4294967295); draws = λ n. []; opens = λ x. []; Plain = λ x y. y ≡ x }
+refreshClaim M = refreshes (refreshGadget M) ((2 ≤ M) × (M ≤ 4294967295))
 
 abbrev pub booleanClaim : ℕ → Claim
-booleanClaim k = record { gadget = booleanGadget k; InRange = (1 ≤ k) × (k ≤ 31); draws = λ n. []; opens = λ x. []; Plain = λ x y. y ≡ x }
+booleanClaim k = refreshes (booleanGadget k) ((1 ≤ k) × (k ≤ 31))

@@ -16,11 +16,12 @@ use Rattle.numbers.proofs.WordsLaws.{words-head, words-tail, words-up}
 use Rattle.tape.specs.declared.Cursor.{Cursor}
 use Rattle.tape.specs.Tape.{ran, lowBits}
 use Rattle.draws.specs.Draws.{Draws, run}
-use Rattle.draws.specs.Plan.{Plan, feed, places, skipped}
-use Rattle.draws.specs.Anew.{highBits, withLow, setAt, marked, merged, Marks, anew, Among, Same, SetAnew, ExactlyOne}
-use Rattle.draws.proofs.DrawnLaws.{Drawn, drawn-moves, drawn-gave, drawn-reads, drawn-anew, same-within, with-low, with-high}
-use Rattle.draws.proofs.PlanLaws.{Reads, none, one, reads-run, reads-places, reads-fit, fits-length, one-skipped, planned-ran}
-use Rattle.draws.proofs.MarksLaws.{among-marked, marked-length, marked-merged}
+use Rattle.draws.specs.Plan.{places, skipped}
+use Rattle.draws.specs.Anew.{highBits, withLow, setAt, marked, anew, Among, Same, SetAnew, ExactlyOne}
+use Rattle.draws.proofs.Outcomes.{Plan, feed, merged, Marks}
+use Rattle.draws.proofs.DrawnLaws.{Drawn, drawn-moves, drawn-reads, drawn-anew, same-within, with-low, with-high}
+use Rattle.draws.proofs.PlanLaws.{Reads, none, one, reads-run, reads-places, one-skipped, planned-ran}
+use Rattle.draws.proofs.MarksLaws.{among-marked, marked-length}
 
 -- ---- words changed at any places, in any order
 

@@ -17,7 +17,7 @@ use Rattle.tape.specs.declared.Cursor.{Cursor}
 use Rattle.tape.specs.Tape.{ended, ran, taken, passed, lowBits, drawAt}
 use Rattle.tape.specs.declared.Draw.{Draw}
 use Rattle.tape.specs.declared.Draw.the-variants.{Got}
-use Rattle.tape.specs.Answers as Answers
+use Rattle.tape.specs.Answers.{drawStandsFor}
 use Rattle.tape.proofs.DrawLaws.{draw-end, draw-more, draw-hit, draw-skip, got}
 use Rattle.draws.specs.Plan.{skipFrom}
 use Rattle.draws.specs.Anew.{highBits, withLow, Same}
@@ -125,5 +125,5 @@ drawn-anew {M} {tape} (skip {c = c} {q = q} h l d) u hu hb =
     skip {c = c} (omega (arith, length-set tape (q .at - 1) x)) (rw z l) (drawn-anew d u hu hb)
 
 -- what a call of draw gave is below its modulus
-pub got-below : (d : Draw) {r : ℕ} {c : Cursor} (tape : List ℕ) (p : Cursor) (M : ℕ) → Answers.drawn d ≡ drawAt tape p M → d ≡ Got r c → r < M
+pub got-below : (d : Draw) {r : ℕ} {c : Cursor} (tape : List ℕ) (p : Cursor) (M : ℕ) → drawStandsFor d ≡ drawAt tape p M → d ≡ Got r c → r < M
 got-below d tape p M e f = drawn-below (drawn (got d e f))

@@ -3,7 +3,7 @@
 use mathlib.Core.Path.{_≡_, refl, sym, ap, _∙_}
 use mathlib.Core.Bool.{Bool}
 use mathlib.Core.List.{List, [], _∷_, _++_}
-use Prim.Native.Nat.{ℕ, zero, suc, _+_, _-_, _^_, _≤_, _<_}
+use Prim.Native.Nat.{ℕ, zero, suc, _+_, _-_, _≤_, _<_}
 use native.Mathlib.Nat.{le-of-suc-le-suc}
 use native.Mathlib.Numerals.{add-one}
 use native.Mathlib.Omega.{arith}
@@ -12,17 +12,14 @@ use lib.ListN.{length, getD, replicate}
 use lib.Dec.{ltb}
 use borrow.Author.Tests.{lt-ltb, le-ltb}
 use Rattle.numbers.specs.Tests.{pick}
-use Rattle.numbers.specs.Bits.{bitsOf}
 use Rattle.numbers.specs.Lists.{Words}
 use Rattle.tape.specs.declared.Cursor.{Cursor}
 use Rattle.tape.specs.Tape.{ran, lowBits}
-use Rattle.draws.specs.Draws.{run}
-use Rattle.draws.specs.Plan.{drawAll}
 use Rattle.draws.specs.Anew.{marked, marksAfter, Among, Same, SetAnew}
 use Rattle.draws.proofs.DrawnLaws.{Drawn, hit, skip, drawn-moves, drawn-gave, drawn-below}
 use Rattle.draws.proofs.PlanLaws.{Reads, none, one, reads-run}
 use Rattle.draws.proofs.MarksLaws.{among-marked, marked-after}
-use Rattle.draws.proofs.AnewLaws.{among, reads-length, reads-moves, reads-within, reads-on-tape, reads-within-tape, reads-same}
+use Rattle.draws.proofs.AnewLaws.{among, reads-length, reads-moves, reads-within, reads-within-tape, reads-same}
 
 -- 1 where the word at place i can give a draw below M, and 0 where it is skipped
 hits-at : ℕ → List ℕ → ℕ → ℕ

@@ -1,3 +1,4 @@
+pub mod Outcomes
 pub mod RunLaws
 pub mod DrawnLaws
 pub mod PlanLaws

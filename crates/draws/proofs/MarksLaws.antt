@@ -6,8 +6,8 @@ use Prim.Native.Nat.{ℕ, zero, suc, _<_, suc-le-suc}
 use native.Mathlib.Nat.{le-of-suc-le-suc}
 use native.Mathlib.Omega.{arith}
 use lib.ListN.{length, replicate}
-use Rattle.draws.specs.Plan.{Fits, none-left, one-more}
-use Rattle.draws.specs.Anew.{marked, merged, Marks, marksAfter, Among}
+use Rattle.draws.specs.Anew.{marked, marksAfter, Among}
+use Rattle.draws.proofs.Outcomes.{Fits, none-left, one-more, merged, Marks}
 
 pub all-marked : (k M : ℕ) → Marks (replicate k true) (replicate k M) k M
 unfolding marked
@@ -52,14 +52,3 @@ marked-length (b ∷ bs) [] (y ∷ ys) e = absurd (omega arith)
 marked-length (b ∷ bs) (x ∷ xs) [] e = absurd (omega arith)
 marked-length (true ∷ bs) (x ∷ xs) (y ∷ ys) e = ap suc (marked-length bs xs ys (omega arith))
 marked-length (false ∷ bs) (x ∷ xs) (y ∷ ys) e = marked-length bs xs ys (omega arith)
-
--- what was put in place of the marked ones is then marked
-pub marked-merged : (bs : List Bool) (xs us : List ℕ) → length (marked bs xs) ≡ length us → marked bs (merged bs xs us) ≡ us
-unfolding marked merged
-marked-merged [] xs [] e = refl
-marked-merged [] xs (u ∷ us) e = absurd (omega arith)
-marked-merged (b ∷ bs) [] [] e = refl
-marked-merged (b ∷ bs) [] (u ∷ us) e = absurd (omega arith)
-marked-merged (true ∷ bs) (x ∷ xs) [] e = absurd (omega arith)
-marked-merged (true ∷ bs) (x ∷ xs) (u ∷ us) e = ap (u ∷_) (marked-merged bs xs us (omega arith))
-marked-merged (false ∷ bs) (x ∷ xs) us e = marked-merged bs xs us e

@@ -9,8 +9,9 @@ use Rattle.numbers.proofs.WordsLaws.{words-head, words-tail}
 use Rattle.tape.specs.declared.Cursor.{Cursor}
 use Rattle.tape.specs.Tape.{Ran, ended, ran, drawAt}
 use Rattle.draws.specs.Draws.{Draws, done, draw, after, next, run, bind}
-use Rattle.draws.specs.Plan.{Always, holds, whatever, Plan, stops, draws, Gives, drawAll, feed, Fits, none-left, one-more, skipFrom, skipped, places}
+use Rattle.draws.specs.Plan.{drawAll, skipFrom, skipped, places}
 use Rattle.draws.specs.Anew.{Same}
+use Rattle.draws.proofs.Outcomes.{Always, holds, whatever, Plan, stops, draws, Gives, feed, Fits, none-left, one-more}
 use Rattle.draws.proofs.RunLaws.{run-bind, run-draw, bind-ran, next-ran, draw-parts, bind-parts}
 use Rattle.draws.proofs.DrawnLaws.{Drawn, drawn, drawn-below, drawn-moves, drawn-skips, drawn-runs, drawn-reads, same-within}
 

@@ -3,7 +3,7 @@ use mathlib.Core.Path.{_≡_}
 use mathlib.Core.Bool.{Bool, true, false}
 use mathlib.Core.List.{List, [], _∷_}
 use Prim.Native.Nat.{ℕ, _+_, _*_, _/_, _^_, _≤_, _<_}
-use lib.ListN.{length, getD, set, replicate}
+use lib.ListN.{length, getD, set}
 use Rattle.numbers.specs.Bits.{bitsOf}
 use Rattle.numbers.specs.Lists.{Words}
 use Rattle.tape.specs.declared.Cursor.{Cursor}
@@ -30,18 +30,6 @@ marked [] xs = []
 marked (b ∷ bs) [] = []
 marked (true ∷ bs) (x ∷ xs) = x ∷ marked bs xs
 marked (false ∷ bs) (x ∷ xs) = marked bs xs
-
--- a list with the numbers us in place of those that are marked
-unfoldable pub merged : List Bool → List ℕ → List ℕ → List ℕ
-merged [] xs us = xs
-merged (b ∷ bs) [] us = []
-merged (true ∷ bs) (x ∷ xs) [] = x ∷ xs
-merged (true ∷ bs) (x ∷ xs) (u ∷ us) = u ∷ merged bs xs us
-merged (false ∷ bs) (x ∷ xs) us = x ∷ merged bs xs us
-
--- of the draws ms, the marked ones are k draws below M
-abbrev pub Marks : List Bool → List ℕ → ℕ → ℕ → Type 0
-Marks bs ms k M = marked bs ms ≡ replicate k M
 
 -- none of the draws ms, and then the marks bs
 unfoldable pub marksAfter : List ℕ → List Bool → List Bool

@@ -1,9 +1,9 @@
--- Laws of the checks: what the code's tests say of them, and what a check that passed says.
-use mathlib.Core.Path.{_≡_, refl, subst, _∙_}
+-- Laws of the checks: what the code's tests say of them, and what a check that all-passed says.
+use mathlib.Core.Path.{_≡_, refl, ap, subst, _∙_}
 use mathlib.Core.List.{List, [], _∷_}
 use mathlib.Core.Bool.{Bool, true, false}
-use Prim.Native.Nat.{ℕ, zero, suc, _+_, _≤_, _<_}
-use native.Mathlib.Nat.{le-of-suc-le-suc}
+use Prim.Native.Nat.{ℕ, zero, suc, _+_, _%_, _^_, _≤_, _<_}
+use native.Mathlib.Nat.{le-of-suc-le-suc, mod-eq-of-lt}
 use native.Mathlib.Omega.{arith}
 use native.Mathlib.Numerals.{add-one}
 use lib.ListN.{length, getD, drop, drop-of-length-le}
@@ -104,9 +104,9 @@ module _ (shares : List ℕ) (room : ℕ) (inRange : Bool) (M : ℕ) where
     pub range : inRange ≡ true
     pub below : Words (length shares) M shares
 
-  pub passed : firstFailing (checks shares room inRange M) ≡ 0 → Passed
+  pub all-passed : firstFailing (checks shares room inRange M) ≡ 0 → Passed
   unfolding firstFailing checks
-  passed e =
+  all-passed e =
       let (c, f) = first (inside 2 8 (length shares)) 1 _ e (λ z. omega arith) in
       let (s, g) = first (eqb room (length shares)) 2 _ f (λ z. omega arith) in
       let (r, h) = first inRange 3 _ g (λ z. omega arith) in
@@ -117,6 +117,10 @@ module _ (shares : List ℕ) (room : ℕ) (inRange : Bool) (M : ℕ) where
       first : (b : Bool) (k m : ℕ) → pick b m k ≡ 0 → (k ≡ 0 → ⊥) → (b ≡ true) × (m ≡ 0)
       first true k m e n = (refl, e)
       first false k m e n = absurd (n e)
+
+-- the bound of a width that is in range
+pub bound-of-width : {k r : ℕ} → r ≡ 2 ^ (k % 32) → k ≤ 31 → r ≡ 2 ^ k
+bound-of-width e h = e ∙ ap (λ (j : ℕ). 2 ^ j) (mod-eq-of-lt (omega arith))
 
 -- what was checked, of a range and a bound that were computed; the bound counts only where the parameters are in range
 pub checked : (shares : List ℕ) (room : ℕ) {k : ℕ} {a b : Bool} {M N : ℕ} → k ≡ firstFailing (checks shares room a M) → a ≡ b → (b ≡ true → M ≡ N) →

@@ -3,7 +3,7 @@ use shares::Shared;
 use words::power;
 ghost use mathlib.Core.Path.{_≡_};
 ghost use mathlib.Core.List.{List};
-ghost use Prim.Native.Nat.{ℕ, _^_, _≤_};
+ghost use Prim.Native.Nat.{ℕ, _%_, _^_, _≤_};
 ghost use lib.ListN.{length, take};
 ghost use Rattle.shares.specs.Arrays.{shared};
 ghost use Rattle.gate.specs.Checks.{inside, allBelow, firstFailing, checks};
@@ -25,9 +25,9 @@ pub fn inside(low: u32, high: u32, x: u32) -> bool
     x <= high
 }
 
-// What Boolean shares of width k are below, if k is 31 at most. For any other k, which number 3 refuses, it is some number.
+// What Boolean shares of width k are below, for k up to 31; any other width is refused before a share is looked at.
 pub fn width_bound(k: u32) -> u32
-    ensures { λ r. ⌜ (k ≤ 31 → r ≡ 2 ^ k) ⌝ }
+    ensures { λ r. ⌜ r ≡ 2 ^ (k % 32) ⌝ }
 {
     power(k % 32)
 }

@@ -73,11 +73,6 @@ pub take-change : (f : ℕ → ℕ) (n i : ℕ) (xs : List ℕ) → i < n → ta
 unfolding change
 take-change f n i xs h = take-set-lt n xs i (f (getD xs i 0)) h ∙ ap (λ (x : ℕ). set (take n xs) i (f x)) (sym (getD-take n xs i 0 h))
 
--- a word stored is one changed
-pub set-change : (f : ℕ → ℕ) (i : ℕ) (xs : List ℕ) (v : ℕ) → v ≡ f (getD xs i 0) → set xs i v ≡ change f i xs
-unfolding change
-set-change f i xs v e = ap (set xs i) e
-
 pub words-change : {n M : ℕ} {xs : List ℕ} (f : ℕ → ℕ) (i : ℕ) → Words n M xs → f (getD xs i 0) < M → Words n M (change f i xs)
 unfolding change
 words-change f i w h = words-set w i h

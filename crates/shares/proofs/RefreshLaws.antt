@@ -10,11 +10,11 @@ use Rattle.numbers.proofs.GroupLaws.{Group, add-cancel}
 use Rattle.numbers.proofs.WordsLaws.{words-at, words-change}
 use Rattle.numbers.proofs.FoldLaws.{fold-below, fold-add, fold-sub}
 use Rattle.draws.specs.Draws.{bind, turns, each}
-use Rattle.draws.specs.Plan.{Gives}
+use Rattle.draws.proofs.Outcomes.{Gives}
 use Rattle.draws.proofs.PlanLaws.{gives-done, gives-draw, gives-as}
-use Rattle.shares.specs.Sharing.{Sharing, Shares, bound, value, plus, minus}
+use Rattle.shares.specs.Sharing.{Sharing, bound, value, plus, minus}
 use Rattle.shares.specs.Refresh.{stir, turn, refresh, refreshPlan}
-use Rattle.shares.proofs.SharingLaws.{group, fold-value}
+use Rattle.shares.proofs.SharingLaws.{Shares, group, fold-value}
 
 -- a refresh of d + 1 shares, as turns
 pub refresh-turns : (s : Sharing) (d : ℕ) (xs : List ℕ) → length xs ≡ suc d → refresh s xs ≡ turns (turn s d) 0 d xs

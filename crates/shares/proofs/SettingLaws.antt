@@ -15,8 +15,8 @@ use Rattle.numbers.proofs.GroupLaws.{Group, add-cancel, add-solves, add-only}
 use Rattle.numbers.proofs.WordsLaws.{words-at, words-set, words-table, table, table-at, length-change, change-here, change-other}
 use Rattle.numbers.proofs.FoldLaws.{fold-below, fold-at}
 use Rattle.draws.specs.Draws.{bind, turns}
-use Rattle.draws.specs.Plan.{feed, Fits}
-use Rattle.draws.specs.Anew.{merged, Marks, ExactlyOne}
+use Rattle.draws.specs.Anew.{ExactlyOne}
+use Rattle.draws.proofs.Outcomes.{feed, Fits, merged, Marks}
 use Rattle.draws.proofs.PlanLaws.{always-feed, words-fit, fits-length}
 use Rattle.draws.proofs.MarksLaws.{all-marked, all-merged}
 use Rattle.draws.proofs.AnewLaws.{exactly-as}

@@ -2,10 +2,15 @@
 use mathlib.Core.Path.{_≡_, refl}
 use mathlib.Core.List.{List}
 use Prim.Native.Nat.{ℕ, _<_}
-use Rattle.numbers.specs.Lists.{fold, xorAll}
+use Rattle.numbers.specs.Lists.{Words, fold, xorAll}
 use Rattle.numbers.proofs.GroupLaws.{Group, sums, xors}
 use Rattle.numbers.proofs.FoldLaws.{fold-sum}
 use Rattle.shares.specs.Sharing.{Sharing, arithmetic, boolean, bound, value, plus, minus}
+
+-- n shares that recombine to v
+pub record Shares (s : Sharing) (n v : ℕ) (xs : List ℕ) : Type 0 where
+  pub words : Words n (bound s) xs
+  pub is : value s xs ≡ v
 
 pub group : (s : Sharing) → 0 < bound s → Group (bound s) (plus s) (minus s)
 group (arithmetic M) h = sums M h

@@ -5,8 +5,8 @@ use mathlib.Core.List.{List}
 use Prim.Native.Nat.{ℕ, _<_}
 use lib.ListN.{getD}
 use Rattle.draws.specs.Draws.{Draws}
-use Rattle.draws.specs.Plan.{feed}
 use Rattle.draws.specs.Anew.{ExactlyOne}
+use Rattle.draws.proofs.Outcomes.{feed}
 use Rattle.shares.specs.Closing.{SameBut}
 
 -- whatever it draws, a program that hands the shares ys back leads by no setting to shares that differ from them in a share but j

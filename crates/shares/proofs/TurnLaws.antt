@@ -11,8 +11,8 @@ use Rattle.tape.specs.declared.Cursor.{Cursor}
 use Rattle.tape.specs.declared.Draw.{Draw}
 use Rattle.tape.specs.declared.Draw.the-variants.{Got, Ended}
 use Rattle.tape.specs.Tape.{Ran, ended, ran, drawAt}
-use Rattle.tape.specs.Answers.{drawn}
-use Rattle.tape.proofs.DrawLaws.{got, none-left}
+use Rattle.tape.specs.Answers.{drawStandsFor}
+use Rattle.tape.proofs.DrawLaws.{got, got-none}
 use Rattle.draws.specs.Draws.{each, run}
 use Rattle.draws.proofs.DrawnLaws.{got-below}
 use Rattle.draws.proofs.RunLaws.{run-draw, run-ended, run-done, each-done, each-more, each-ended}
@@ -22,16 +22,16 @@ use Rattle.shares.specs.Arrays.{Held}
 use Rattle.shares.proofs.SharingLaws.{group}
 use Rattle.shares.proofs.ArraysLaws.{held-at, held-set}
 
--- at turn i of a refresh of n shares that began as x, with the last share in tail: what is left to do gives the same as the whole
-pub record Left (s : Sharing) (size n : ℕ) (tape : List ℕ) (x : Ran (List ℕ)) (i : ℕ) (words : List ℕ) (tail : ℕ) (p : Cursor) : Type 0 where
+-- at turn i of a refresh of n shares that began as x, with the last share in last-share: what is left to do gives the same as the whole
+pub record ToDo (s : Sharing) (size n : ℕ) (tape : List ℕ) (x : Ran (List ℕ)) (i : ℕ) (words : List ℕ) (last-share : ℕ) (p : Cursor) : Type 0 where
   pub held : Held size n (bound s) words
-  pub below : tail < bound s
-  pub same : run (each (turn s (n - 1)) i (n - 1) (take n (set words (n - 1) tail))) tape p ≡ x
+  pub below : last-share < bound s
+  pub same : run (each (turn s (n - 1)) i (n - 1) (take n (set words (n - 1) last-share))) tape p ≡ x
 
-pub left-start : (s : Sharing) (size n : ℕ) (words tape : List ℕ) (p : Cursor) → Held size n (bound s) words →
-    Left s size n tape (run (refresh s (take n words)) tape p) 0 words (getD words (n - 1) 0) p
+pub todo-start : (s : Sharing) (size n : ℕ) (words tape : List ℕ) (p : Cursor) → Held size n (bound s) words →
+    ToDo s size n tape (run (refresh s (take n words)) tape p) 0 words (getD words (n - 1) 0) p
 unfolding refresh
-left-start s size n words tape p h =
+todo-start s size n words tape p h =
     let e : length (take n words) ≡ n = length-take-le n words (omega (arith, h .most, h .all .size)) in
     record {
       held = h;
@@ -41,24 +41,24 @@ left-start s size n words tape p h =
           ∙ sym (ap (λ (k : ℕ). run (each (turn s (k - 1)) 0 (k - 1) (take n words)) tape p) e);
     }
 
-module _ {s : Sharing} {size n : ℕ} {tape : List ℕ} {x : Ran (List ℕ)} {i : ℕ} {words : List ℕ} {tail : ℕ} {p : Cursor} (a : Left s size n tape x i words tail p) where
+module _ {s : Sharing} {size n : ℕ} {tape : List ℕ} {x : Ran (List ℕ)} {i : ℕ} {words : List ℕ} {last-share : ℕ} {p : Cursor} (a : ToDo s size n tape x i words last-share p) where
   -- no turn is left, and the last share is stored
-  pub left-words : Words size (bound s) (set words (n - 1) tail)
-  left-words = held-set (a .held) (n - 1) (a .below) .all
+  pub todo-words : Words size (bound s) (set words (n - 1) last-share)
+  todo-words = held-set (a .held) (n - 1) (a .below) .all
 
-  pub left-none : n - 1 ≤ i → ran (take n (set words (n - 1) tail)) p ≡ x
-  left-none h = sym (each-done (turn s (n - 1)) i (n - 1) (take n (set words (n - 1) tail)) tape p h) ∙ a .same
+  pub todo-none : n - 1 ≤ i → ran (take n (set words (n - 1) last-share)) p ≡ x
+  todo-none h = sym (each-done (turn s (n - 1)) i (n - 1) (take n (set words (n - 1) last-share)) tape p h) ∙ a .same
 
-  module _ (h : i < n - 1) (d : Draw) (told : drawn d ≡ drawAt tape p (bound s)) where
+  module _ (h : i < n - 1) (d : Draw) (told : drawStandsFor d ≡ drawAt tape p (bound s)) where
     -- the tape has ended
-    pub left-ended : d ≡ Ended → ended ≡ x
+    pub todo-ended : d ≡ Ended → ended ≡ x
     unfolding turn
-    left-ended e =
-        sym (each-ended (turn s (n - 1)) i (n - 1) (take n (set words (n - 1) tail)) tape p h (run-ended (bound s) _ tape p (none-left d told e))) ∙ a .same
+    todo-ended e =
+        sym (each-ended (turn s (n - 1)) i (n - 1) (take n (set words (n - 1) last-share)) tape p h (run-ended (bound s) _ tape p (got-none d told e))) ∙ a .same
 
     module _ {r : ℕ} {c : Cursor} (e : d ≡ Got r c) where
-      pub left-draw : r < bound s
-      left-draw = got-below d tape p (bound s) told e
+      pub todo-draw : r < bound s
+      todo-draw = got-below d tape p (bound s) told e
 
       stir-take : (ws : List ℕ) → take n (stir s (n - 1) i r ws) ≡ stir s (n - 1) i r (take n ws)
       unfolding stir
@@ -67,30 +67,30 @@ module _ {s : Sharing} {size n : ℕ} {tape : List ℕ} {x : Ran (List ℕ)} {i 
           ∙ ap (change (λ y. minus s y r) (n - 1)) (take-change (λ y. plus s y r) n i ws (omega arith))
 
       -- a turn with the last share in a local
-      stirred : {v w : ℕ} → v ≡ plus s (getD words i 0) r → w ≡ minus s tail r → set (set words i v) (n - 1) w ≡ stir s (n - 1) i r (set words (n - 1) tail)
+      stirred : {v w : ℕ} → v ≡ plus s (getD words i 0) r → w ≡ minus s last-share r → set (set words i v) (n - 1) w ≡ stir s (n - 1) i r (set words (n - 1) last-share)
       unfolding stir change
       stirred {v} {w} f o =
           let last : ℕ = n - 1 in
           let l : last < length (set words i v) = omega (arith, length-set words i v, a .held .all .size, a .held .most) in
-          let g : plus s (getD (set words last tail) i 0) r ≡ v = ap (λ y. plus s y r) (getD-set-other words last i tail 0 (omega arith)) ∙ sym f in
-          let t : set (set words last tail) i v ≡ set (set words i v) last tail = set-comm words last i tail v (omega arith) in
-          sym (ap (λ y. set (set (set words last tail) i y) last (minus s (getD (set (set words last tail) i y) last 0) r)) g
+          let g : plus s (getD (set words last last-share) i 0) r ≡ v = ap (λ y. plus s y r) (getD-set-other words last i last-share 0 (omega arith)) ∙ sym f in
+          let t : set (set words last last-share) i v ≡ set (set words i v) last last-share = set-comm words last i last-share v (omega arith) in
+          sym (ap (λ y. set (set (set words last last-share) i y) last (minus s (getD (set (set words last last-share) i y) last 0) r)) g
           ∙ ap (λ (y : List ℕ). set y last (minus s (getD y last 0) r)) t
-          ∙ ap (λ y. set (set (set words i v) last tail) last (minus s y r)) (getD-set-same (set words i v) last tail 0 l)
-          ∙ set-set (set words i v) last tail (minus s tail r) ∙ ap (set (set words i v) last) (sym o))
+          ∙ ap (λ y. set (set (set words i v) last last-share) last (minus s y r)) (getD-set-same (set words i v) last last-share 0 l)
+          ∙ set-set (set words i v) last last-share (minus s last-share r) ∙ ap (set (set words i v) last) (sym o))
 
       -- r added to word i and taken from the last share
-      pub left-more : {v w : ℕ} → v ≡ plus s (getD words i 0) r → w ≡ minus s tail r → Left s size n tape x (i + 1) (set words i v) w c
+      pub todo-more : {v w : ℕ} → v ≡ plus s (getD words i 0) r → w ≡ minus s last-share r → ToDo s size n tape x (i + 1) (set words i v) w c
       unfolding turn
-      left-more {v} {w} f o =
+      todo-more {v} {w} f o =
           let g = group s (omega (arith, a .held .two)) in
           let y : List ℕ = set (set words i v) (n - 1) w in
           record {
-            held = held-set (a .held) i (rw f (g .add-below (getD words i 0) r (held-at (a .held) i) left-draw));
-            below = rw o (g .sub-below tail r (a .below) left-draw);
+            held = held-set (a .held) i (rw f (g .add-below (getD words i 0) r (held-at (a .held) i) todo-draw));
+            below = rw o (g .sub-below last-share r (a .below) todo-draw);
             same =
-                sym (each-more (turn s (n - 1)) i (n - 1) (take n (set words (n - 1) tail)) tape p h (take n y) c
+                sym (each-more (turn s (n - 1)) i (n - 1) (take n (set words (n - 1) last-share)) tape p h (take n y) c
                 (run-draw (bound s) _ tape p r c (got d told e) ∙ run-done _ tape c
-                ∙ ap (λ (l : List ℕ). ran l c) (sym (ap (take n) (stirred f o) ∙ stir-take (set words (n - 1) tail)))))
+                ∙ ap (λ (l : List ℕ). ran l c) (sym (ap (take n) (stirred f o) ∙ stir-take (set words (n - 1) last-share)))))
                 ∙ a .same;
           }

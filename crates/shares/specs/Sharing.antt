@@ -1,9 +1,8 @@
 -- The two kinds of sharing (document 01, "What the library covers").
-use mathlib.Core.Path.{_≡_}
 use mathlib.Core.List.{List}
 use Prim.Native.Nat.{ℕ, _%_, _^_}
 use Rattle.numbers.specs.Modulo.{addMod, subMod, xor}
-use Rattle.numbers.specs.Lists.{Words, sum, xorAll}
+use Rattle.numbers.specs.Lists.{sum, xorAll}
 
 -- an arithmetic sharing modulo M, or a Boolean one of width k
 pub data Sharing : Type 0 where
@@ -28,8 +27,3 @@ plus (boolean k) = xor
 abbrev pub minus : Sharing → ℕ → ℕ → ℕ
 minus (arithmetic M) = subMod M
 minus (boolean k) = xor
-
--- n shares that recombine to v
-pub record Shares (s : Sharing) (n v : ℕ) (xs : List ℕ) : Type 0 where
-  pub words : Words n (bound s) xs
-  pub is : value s xs ≡ v

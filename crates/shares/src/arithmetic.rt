@@ -1,4 +1,4 @@
-// Refresh mod m. The last share is kept in a local while the draws go by: stored at every turn, it would be what each turn waits for.
+// Refresh mod m. The last share stays in a local while the draws go by: a store at every turn would make the next turn wait.
 use super::Shared;
 use tape::Cursor;
 use tape::Draw;
@@ -17,7 +17,7 @@ pub fn refresh(shares: [u32; 8], n: usize, m: u32, cursor: Cursor, tape: &[u32])
     let mut words = shares;
     let mut cur = cursor;
     let last = n - 1;
-    let mut tail = words[last];
+    let mut last_share = words[last];
     for i in 0..last {
         let Draw::Got(r, next) = cur.draw(tape, m) else {
             return Shared {
@@ -27,10 +27,10 @@ pub fn refresh(shares: [u32; 8], n: usize, m: u32, cursor: Cursor, tape: &[u32])
             };
         };
         words[i] = add_mod(words[i], r, m);
-        tail = sub_mod(tail, r, m);
+        last_share = sub_mod(last_share, r, m);
         cur = next;
     }
-    words[last] = tail;
+    words[last] = last_share;
     Shared {
         words,
         cursor: cur,

@@ -18,7 +18,7 @@ pub fn refresh_boolean(shares: [u32; 8], n: usize, k: u32, cursor: Cursor, tape:
     let mut words = shares;
     let mut cur = cursor;
     let last = n - 1;
-    let mut tail = words[last];
+    let mut last_share = words[last];
     for i in 0..last {
         let Draw::Got(r, next) = cur.draw(tape, m) else {
             return Shared {
@@ -28,10 +28,10 @@ pub fn refresh_boolean(shares: [u32; 8], n: usize, k: u32, cursor: Cursor, tape:
             };
         };
         words[i] = words[i] ^ r;
-        tail = tail ^ r;
+        last_share = last_share ^ r;
         cur = next;
     }
-    words[last] = tail;
+    words[last] = last_share;
     Shared {
         words,
         cursor: cur,

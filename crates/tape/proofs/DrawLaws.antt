@@ -13,7 +13,7 @@ use Rattle.tape.specs.declared.Cursor.{Cursor}
 use Rattle.tape.specs.declared.Draw.{Draw}
 use Rattle.tape.specs.declared.Draw.the-variants.{Got, Ended}
 use Rattle.tape.specs.Tape.{Ran, ended, ran, taken, passed, lowBits, drawFrom, drawAt}
-use Rattle.tape.specs.Answers.{drawn}
+use Rattle.tape.specs.Answers.{drawStandsFor}
 
 module _ (tape : List ℕ) (c : Cursor) (M : ℕ) where
   -- past the tape's end there is no draw
@@ -41,10 +41,10 @@ unfolding lowBits
 low-is M w s r e f = rw (← e) (sym f)
 
 -- what a call of draw gave
-pub got : (d : Draw) {r : ℕ} {c : Cursor} {x : Ran ℕ} → drawn d ≡ x → d ≡ Got r c → x ≡ ran r c
-unfolding drawn
+pub got : (d : Draw) {r : ℕ} {c : Cursor} {x : Ran ℕ} → drawStandsFor d ≡ x → d ≡ Got r c → x ≡ ran r c
+unfolding drawStandsFor
 got d e f = sym e ∙ rw f
 
-pub none-left : (d : Draw) {x : Ran ℕ} → drawn d ≡ x → d ≡ Ended → x ≡ ended
-unfolding drawn
-none-left d e f = sym e ∙ rw f
+pub got-none : (d : Draw) {x : Ran ℕ} → drawStandsFor d ≡ x → d ≡ Ended → x ≡ ended
+unfolding drawStandsFor
+got-none d e f = sym e ∙ rw f

@@ -4,6 +4,6 @@ use Rattle.tape.specs.declared.Draw.{Draw}
 use Rattle.tape.specs.declared.Draw.the-variants.{Got, Ended}
 use Rattle.tape.specs.Tape.{Ran, ended, ran}
 
-unfoldable pub drawn : Draw → Ran ℕ
-drawn (Got r c) = ran r c
-drawn Ended = ended
+unfoldable pub drawStandsFor : Draw → Ran ℕ
+drawStandsFor (Got r c) = ran r c
+drawStandsFor Ended = ended

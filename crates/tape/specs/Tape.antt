@@ -11,7 +11,7 @@ use Rattle.tape.specs.declared.Cursor.{Cursor}
 abbrev pub start : Cursor
 start = record { at = 0 }
 
--- the place after a word that gave the draw, and after a word that was skipped
+-- the place after a word that gave the draw, and after a word that was skipped: one word on, in either case
 abbrev pub taken : Cursor → Cursor
 taken c = record { at = c .at + 1 }
 

@@ -4,7 +4,7 @@ ghost use mathlib.Core.Path.{_≡_};
 ghost use Prim.Native.Nat.{_%_, _^_, _≤_};
 ghost use Rattle.numbers.specs.Bits.{bitsOf};
 ghost use Rattle.tape.specs.Tape.{start, drawAt};
-ghost use Rattle.tape.specs.Answers.{drawn};
+ghost use Rattle.tape.specs.Answers.{drawStandsFor};
 
 // The place on the tape that each draw hands on to the next: the number of words read so far.
 pub struct Cursor {
@@ -44,7 +44,7 @@ impl Cursor {
     // A draw below m: words whose low bits are not below m are skipped.
     pub fn draw(self, tape: &[u32], m: u32) -> Draw
         requires { ⌜ 2 ≤ m ⌝ }
-        ensures { λ r. ⌜ drawn r ≡ drawAt (now (tape .entry)) self m ⌝ }
+        ensures { λ r. ⌜ drawStandsFor r ≡ drawAt (now (tape .entry)) self m ⌝ }
     {
         let span = span_of(m);
         let mut at = self.at;

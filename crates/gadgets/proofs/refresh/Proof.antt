@@ -6,7 +6,7 @@ use denote.Ref.{now}
 use Rattle.draws.specs.Draws.{bind, done}
 use Rattle.shares.specs.Refresh.{refresh}
 use Rattle.gate.specs.Checks.{inside, firstFailing, checks}
-use Rattle.gate.proofs.CheckLaws.{Passed, passed, inside-out, checked}
+use Rattle.gate.proofs.CheckLaws.{Passed, all-passed, inside-out, checked}
 use Rattle.gate.proofs.GadgetLaws.{silent-refused, silent-ran, on-copy, held}
 use Rattle.shares.specs.Sharing.{arithmetic}
 use Rattle.gadgets.specs.Refresh.{refreshGadget}
@@ -24,7 +24,7 @@ number c = checked _ _ (c .first-failing .ensures) (c .before .inside .ensures) 
 good : (c : tie.Else1) →
     let a = c .before .before .before .before .before .before .args in
     Passed (now (a .shares)) (length (now (a .out))) (inside 2 4294967295 (a .modulus)) (a .modulus)
-good c = passed _ _ _ _ (sym (number (c .before)) ∙ c .if1 .left)
+good c = all-passed _ _ _ _ (sym (number (c .before)) ∙ c .if1 .left)
 
 first-failing-requires : tie.Need-first-failing-requires
 first-failing-requires c κs = search needs

@@ -5,7 +5,7 @@ use lib.ListN.{length}
 use denote.Ref.{now}
 use Rattle.draws.specs.Draws.{bind, done}
 use Rattle.gate.specs.Checks.{inside, firstFailing, checks}
-use Rattle.gate.proofs.CheckLaws.{Passed, passed, inside-out, checked}
+use Rattle.gate.proofs.CheckLaws.{Passed, all-passed, inside-out, bound-of-width, checked}
 use Rattle.gate.proofs.GadgetLaws.{silent-refused, silent-ran, on-copy, held}
 use Prim.Native.Nat.{ℕ, _^_, _≤_}
 use lib.Pow.{pow-mono}
@@ -21,12 +21,12 @@ inside-requires c κs = search needs
 number : (c : tie.After-first-failing) →
     let a = c .before .before .before .before .before .before .args in
     c .first-failing .result ≡ firstFailing (checks (now (a .shares)) (length (now (a .out))) (inside 1 31 (a .width)) (2 ^ a .width))
-number c = checked _ _ (c .first-failing .ensures) (c .before .before .inside .ensures) (λ t. c .before .width-bound .ensures (inside-out 1 31 _ t .1))
+number c = checked _ _ (c .first-failing .ensures) (c .before .before .inside .ensures) (λ t. bound-of-width (c .before .width-bound .ensures) (inside-out 1 31 _ t .1))
 
 good : (c : tie.Else1) →
     let a = c .before .before .before .before .before .before .before .args in
     Passed (now (a .shares)) (length (now (a .out))) (inside 1 31 (a .width)) (2 ^ a .width)
-good c = passed _ _ _ _ (sym (number (c .before)) ∙ c .if1 .left)
+good c = all-passed _ _ _ _ (sym (number (c .before)) ∙ c .if1 .left)
 
 two : (k : ℕ) → 1 ≤ k → 2 ≤ 2 ^ k
 two k h = pow-mono {i = 1} {j = k} h

@@ -5,7 +5,7 @@ use lib.ListN.{length, getD}
 use denote.Ref.{now}
 use lib.Pow.{pow-pos}
 use Rattle.tape.specs.Tape.{lowBits, drawAt}
-use Rattle.tape.specs.Answers.{drawn}
+use Rattle.tape.specs.Answers.{drawStandsFor}
 use Rattle.tape.proofs.DrawLaws.{draw-end, draw-hit, draw-skip, low-is}
 use Rattle.tape.proofs.Cursor.draw.Statement.{statement}
 use Rattle.tape.proofs.Cursor.draw.Tie as tie
@@ -41,7 +41,7 @@ add-at : tie.Need-add-at Inv-loop μ-loop
 add-at c = search needs
 
 returns : tie.Need-returns Inv-loop μ-loop
-unfolding drawn
+unfolding drawStandsFor
 returns c =
     let l = c .before .before .before .before in
     sym (draw-hit _ _ _ (c .before .before .before .loop-test .taken) _ (read (c .before)) (c .if1 .taken)) ∙ l .loop .inv
@@ -55,7 +55,7 @@ loop-again c =
     sym (draw-skip _ _ _ (c .before .before .before .loop-test .taken) _ (read (c .before)) (c .if1 .left)) ∙ l .loop .inv
 
 returns-2 : tie.Need-returns-2 Inv-loop μ-loop
-unfolding drawn
+unfolding drawStandsFor
 returns-2 c = sym (sym (c .before .loop .inv) ∙ draw-end _ _ _ (c .loop-test .left))
 
 pub draw-spec : {M : Type 1} → statement M
