@@ -78,7 +78,7 @@ impl Sharing {
 }
 
 /// The checks in their order, then the steps, then the closing refresh in `output`.
-/// `input` and `output` are `None` where a parameter is out of its range.
+/// `kinds` is `None` where a parameter is out of its range.
 pub fn gadget(
     shares: &[u32],
     tape: &[u32],
