@@ -43,73 +43,61 @@ pub struct Answer {
     pub out: Option<Vec<u32>>,
 }
 
-/// How shares are put together.
-pub enum Sharing {
-    Sum(u64),
-    Xor(u32),
+/// The first of the numbers 1 to 4 that applies. `limit` is what the shares are below, `None` if a parameter is out of range.
+fn refusal(shares: &[u32], room: usize, limit: Option<u64>) -> Option<u32> {
+    let count = shares.len();
+    let found = [
+        (1, !(2..=8).contains(&count)),
+        (2, room != count),
+        (3, limit.is_none()),
+        (4, shares.iter().any(|&x| Some(u64::from(x)) >= limit)),
+    ];
+    found.iter().find(|(_, fails)| *fails).map(|(number, _)| *number)
 }
 
-impl Sharing {
-    fn bound(&self) -> u64 {
-        match *self {
-            Sharing::Sum(modulus) => modulus,
-            Sharing::Xor(width) => 1 << width,
-        }
+/// The answer of a call: a refusal, number 5 if the steps met the tape's end, or their shares.
+fn answer(refused: Option<u32>, tape: &[u32], steps: impl FnOnce(&mut Tape) -> Option<Vec<u64>>) -> Answer {
+    let refuse = |number| Answer { number, used: 0, out: None };
+    if let Some(number) = refused {
+        return refuse(number);
     }
-
-    /// All draws first; then share i has draw i put in, and the last share has all of them taken out.
-    fn refresh(&self, shares: &[u64], tape: &mut Tape) -> Option<Vec<u64>> {
-        let (last, others) = shares.split_last()?;
-        let draws = tape.draws(others.len(), self.bound())?;
-        let pairs = others.iter().zip(&draws);
-        let mut fresh: Vec<u64> = match *self {
-            Sharing::Sum(modulus) => pairs.map(|(x, r)| (x + r) % modulus).collect(),
-            Sharing::Xor(_) => pairs.map(|(x, r)| x ^ r).collect(),
-        };
-        fresh.push(match *self {
-            Sharing::Sum(modulus) => {
-                let taken: u64 = draws.iter().sum();
-                (i128::from(*last) - i128::from(taken)).rem_euclid(i128::from(modulus)) as u64
-            }
-            Sharing::Xor(_) => draws.iter().fold(*last, |x, r| x ^ r),
-        });
-        Some(fresh)
-    }
-}
-
-/// The checks in their order, then the steps, then the closing refresh in `output`.
-/// `kinds` is `None` where a parameter is out of its range.
-pub fn gadget(
-    shares: &[u32],
-    tape: &[u32],
-    room: usize,
-    kinds: Option<(Sharing, Sharing)>,
-    steps: impl Fn(Vec<u64>, &mut Tape) -> Option<Vec<u64>>,
-) -> Answer {
     let mut tape = Tape::new(tape);
-    let result = (|| {
-        let n = shares.len();
-        (2..=8).contains(&n).then_some(()).ok_or(1u32)?;
-        (room == n).then_some(()).ok_or(2u32)?;
-        let (input, output) = kinds.ok_or(3u32)?;
-        let words: Vec<u64> = shares.iter().copied().map(u64::from).collect();
-        words.iter().all(|&x| x < input.bound()).then_some(()).ok_or(4u32)?;
-        let inner = steps(words, &mut tape).ok_or(5u32)?;
-        output.refresh(&inner, &mut tape).ok_or(5u32)
-    })();
-    match result {
-        Ok(out) => Answer { number: 0, used: tape.used(), out: Some(out.into_iter().map(|x| x as u32).collect()) },
-        Err(number) => Answer { number, used: 0, out: None },
+    match steps(&mut tape) {
+        None => refuse(5),
+        Some(words) => Answer { number: 0, used: tape.used(), out: Some(words.iter().map(|&x| x as u32).collect()) },
     }
+}
+
+fn wide(shares: &[u32]) -> Vec<u64> {
+    shares.iter().copied().map(u64::from).collect()
+}
+
+/// All draws first; then each share but the last has its draw added, and the last has their sum taken away.
+fn refresh_sum(shares: &[u64], modulus: u64, tape: &mut Tape) -> Option<Vec<u64>> {
+    let (last, others) = shares.split_last()?;
+    let draws = tape.draws(others.len(), modulus)?;
+    let taken = draws.iter().fold(i128::from(*last), |x, &r| x - i128::from(r));
+    let added = others.iter().zip(&draws).map(|(x, r)| (x + r) % modulus);
+    Some(added.chain([taken.rem_euclid(i128::from(modulus)) as u64]).collect())
+}
+
+/// The same with exclusive or.
+fn refresh_xor(shares: &[u64], width: u32, tape: &mut Tape) -> Option<Vec<u64>> {
+    let (last, others) = shares.split_last()?;
+    let draws = tape.draws(others.len(), 1 << width)?;
+    let taken = draws.iter().fold(*last, |x, r| x ^ r);
+    let added = others.iter().zip(&draws).map(|(x, r)| x ^ r);
+    Some(added.chain([taken]).collect())
 }
 
 pub fn refresh(shares: &[u32], tape: &[u32], modulus: u32, room: usize) -> Answer {
-    let sum = || Sharing::Sum(u64::from(modulus));
-    let kinds = (modulus >= 2).then(|| (sum(), sum()));
-    gadget(shares, tape, room, kinds, |words, _| Some(words))
+    let limit = (modulus >= 2).then_some(u64::from(modulus));
+    let steps = |tape: &mut Tape| refresh_sum(&wide(shares), u64::from(modulus), tape);
+    answer(refusal(shares, room, limit), tape, steps)
 }
 
 pub fn refresh_boolean(shares: &[u32], tape: &[u32], width: u32, room: usize) -> Answer {
-    let kinds = (1..=31).contains(&width).then_some((Sharing::Xor(width), Sharing::Xor(width)));
-    gadget(shares, tape, room, kinds, |words, _| Some(words))
+    let limit = (1..=31).contains(&width).then(|| 1 << width);
+    let steps = |tape: &mut Tape| refresh_xor(&wide(shares), width, tape);
+    answer(refusal(shares, room, limit), tape, steps)
 }
