@@ -31,19 +31,19 @@ unfoldable pub closingAnew : Claim → ℕ → List ℕ → List ℕ → List �
 closingAnew c n tape us = anew (marksAfter (c .draws n) (closingMarks n)) (bound (c .gadget .output)) (plan c n) tape start us
 
 -- a number is put into the low L bits of a word that gave a closing draw, so it is below this
-abbrev pub closingBits : Claim → ℕ
-closingBits c = 2 ^ bitsOf (bound (c .gadget .output))
+abbrev pub closingSpan : Claim → ℕ
+closingSpan c = 2 ^ bitsOf (bound (c .gadget .output))
 
 -- for a first input on a tape on which it succeeds, a second one, and any share j to leave out
 pub record OneSetting (c : Claim) (shares tape out second slice : List ℕ) (j : ℕ) : Type 0 where
   pub one-setting :
-      ExactlyOne (length shares - 1) (closingBits c) (λ us.
+      ExactlyOne (length shares - 1) (closingSpan c) (λ us.
       SameTold (length shares) j (tells (c .gadget) second (closingAnew c (length shares) tape us) slice) (tells (c .gadget) shares tape out))
   -- and to set them anew changes the low L bits of the words that gave them, and nothing more
-  pub nothing-else : (us : List ℕ) → Words (length shares - 1) (closingBits c) us →
+  pub nothing-else : (us : List ℕ) → Words (length shares - 1) (closingSpan c) us →
       SetAnew (bound (c .gadget .output)) tape (closingPlaces c (length shares) tape) us (closingAnew c (length shares) tape us)
   -- which leaves a tape of 32-bit words
-  pub still-words : (us : List ℕ) → Words (length shares - 1) (closingBits c) us → ((i : ℕ) → getD tape i 0 < 2 ^ 32) →
+  pub still-words : (us : List ℕ) → Words (length shares - 1) (closingSpan c) us → ((i : ℕ) → getD tape i 0 < 2 ^ 32) →
       (i : ℕ) → getD (closingAnew c (length shares) tape us) i 0 < 2 ^ 32
 
 abbrev pub Settings : Claim → (shares tape out : List ℕ) → Type 0
