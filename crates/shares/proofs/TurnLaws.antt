@@ -23,15 +23,15 @@ use Rattle.shares.proofs.SharingLaws.{group}
 use Rattle.shares.proofs.ArraysLaws.{held-at, held-set}
 
 -- at turn i of a refresh of n shares that began as x, with the last share in last-share: what is left to do gives the same as the whole
-pub record ToDo (s : Sharing) (size n : ℕ) (tape : List ℕ) (x : Ran (List ℕ)) (i : ℕ) (words : List ℕ) (last-share : ℕ) (p : Cursor) : Type 0 where
+pub record Remaining (s : Sharing) (size n : ℕ) (tape : List ℕ) (x : Ran (List ℕ)) (i : ℕ) (words : List ℕ) (last-share : ℕ) (p : Cursor) : Type 0 where
   pub held : Held size n (bound s) words
   pub below : last-share < bound s
   pub same : run (each (turn s (n - 1)) i (n - 1) (take n (set words (n - 1) last-share))) tape p ≡ x
 
-pub todo-start : (s : Sharing) (size n : ℕ) (words tape : List ℕ) (p : Cursor) → Held size n (bound s) words →
-    ToDo s size n tape (run (refresh s (take n words)) tape p) 0 words (getD words (n - 1) 0) p
+pub remaining-start : (s : Sharing) (size n : ℕ) (words tape : List ℕ) (p : Cursor) → Held size n (bound s) words →
+    Remaining s size n tape (run (refresh s (take n words)) tape p) 0 words (getD words (n - 1) 0) p
 unfolding refresh
-todo-start s size n words tape p h =
+remaining-start s size n words tape p h =
     let e : length (take n words) ≡ n = length-take-le n words (omega (arith, h .most, h .all .size)) in
     record {
       held = h;
@@ -41,24 +41,24 @@ todo-start s size n words tape p h =
           ∙ sym (ap (λ (k : ℕ). run (each (turn s (k - 1)) 0 (k - 1) (take n words)) tape p) e);
     }
 
-module _ {s : Sharing} {size n : ℕ} {tape : List ℕ} {x : Ran (List ℕ)} {i : ℕ} {words : List ℕ} {last-share : ℕ} {p : Cursor} (a : ToDo s size n tape x i words last-share p) where
+module _ {s : Sharing} {size n : ℕ} {tape : List ℕ} {x : Ran (List ℕ)} {i : ℕ} {words : List ℕ} {last-share : ℕ} {p : Cursor} (a : Remaining s size n tape x i words last-share p) where
   -- no turn is left, and the last share is stored
-  pub todo-words : Words size (bound s) (set words (n - 1) last-share)
-  todo-words = held-set (a .held) (n - 1) (a .below) .all
+  pub remaining-words : Words size (bound s) (set words (n - 1) last-share)
+  remaining-words = held-set (a .held) (n - 1) (a .below) .all
 
-  pub todo-none : n - 1 ≤ i → ran (take n (set words (n - 1) last-share)) p ≡ x
-  todo-none h = sym (each-done (turn s (n - 1)) i (n - 1) (take n (set words (n - 1) last-share)) tape p h) ∙ a .same
+  pub remaining-none : n - 1 ≤ i → ran (take n (set words (n - 1) last-share)) p ≡ x
+  remaining-none h = sym (each-done (turn s (n - 1)) i (n - 1) (take n (set words (n - 1) last-share)) tape p h) ∙ a .same
 
   module _ (h : i < n - 1) (d : Draw) (told : drawStandsFor d ≡ drawAt tape p (bound s)) where
     -- the tape has ended
-    pub todo-ended : d ≡ Ended → ended ≡ x
+    pub remaining-ended : d ≡ Ended → ended ≡ x
     unfolding turn
-    todo-ended e =
+    remaining-ended e =
         sym (each-ended (turn s (n - 1)) i (n - 1) (take n (set words (n - 1) last-share)) tape p h (run-ended (bound s) _ tape p (got-none d told e))) ∙ a .same
 
     module _ {r : ℕ} {c : Cursor} (e : d ≡ Got r c) where
-      pub todo-draw : r < bound s
-      todo-draw = got-below d tape p (bound s) told e
+      pub remaining-draw : r < bound s
+      remaining-draw = got-below d tape p (bound s) told e
 
       stir-take : (ws : List ℕ) → take n (stir s (n - 1) i r ws) ≡ stir s (n - 1) i r (take n ws)
       unfolding stir
@@ -80,14 +80,14 @@ module _ {s : Sharing} {size n : ℕ} {tape : List ℕ} {x : Ran (List ℕ)} {i 
           ∙ set-set (set words i v) last last-share (minus s last-share r) ∙ ap (set (set words i v) last) (sym o))
 
       -- r added to word i and taken from the last share
-      pub todo-more : {v w : ℕ} → v ≡ plus s (getD words i 0) r → w ≡ minus s last-share r → ToDo s size n tape x (i + 1) (set words i v) w c
+      pub remaining-more : {v w : ℕ} → v ≡ plus s (getD words i 0) r → w ≡ minus s last-share r → Remaining s size n tape x (i + 1) (set words i v) w c
       unfolding turn
-      todo-more {v} {w} f o =
+      remaining-more {v} {w} f o =
           let g = group s (omega (arith, a .held .two)) in
           let y : List ℕ = set (set words i v) (n - 1) w in
           record {
-            held = held-set (a .held) i (rw f (g .add-below (getD words i 0) r (held-at (a .held) i) todo-draw));
-            below = rw o (g .sub-below last-share r (a .below) todo-draw);
+            held = held-set (a .held) i (rw f (g .add-below (getD words i 0) r (held-at (a .held) i) remaining-draw));
+            below = rw o (g .sub-below last-share r (a .below) remaining-draw);
             same =
                 sym (each-more (turn s (n - 1)) i (n - 1) (take n (set words (n - 1) last-share)) tape p h (take n y) c
                 (run-draw (bound s) _ tape p r c (got d told e) ∙ run-done _ tape c

@@ -6,13 +6,13 @@ use Rattle.draws.specs.Draws.{run}
 use Rattle.shares.specs.Sharing.{arithmetic}
 use Rattle.shares.specs.Refresh.{refresh}
 use Rattle.shares.proofs.ArraysLaws.{held-at, whole, cut-off}
-use Rattle.shares.proofs.TurnLaws.{ToDo, todo-start, todo-words, todo-none, todo-ended, todo-draw, todo-more}
+use Rattle.shares.proofs.TurnLaws.{Remaining, remaining-start, remaining-words, remaining-none, remaining-ended, remaining-draw, remaining-more}
 use Rattle.shares.proofs.arithmetic.refresh.Statement.{statement}
 use Rattle.shares.proofs.arithmetic.refresh.Tie as tie
 
 abbrev Inv-loop : tie.InvT-loop
 Inv-loop n m tape words₀ cur₀ last last-share₀ i₀ words cur last-share i =
-    ToDo (arithmetic m) 8 n tape (run (refresh (arithmetic m) (take n words₀)) tape cur₀) i words last-share cur
+    Remaining (arithmetic m) 8 n tape (run (refresh (arithmetic m) (take n words₀)) tape cur₀) i words last-share cur
 
 abbrev μ-loop : tie.MeasureT-loop
 μ-loop n m tape words₀ cur₀ last last-share₀ i₀ words cur last-share i = last - i
@@ -27,7 +27,7 @@ array-read-last-share : tie.Need-array-read-last-share Inv-loop μ-loop
 array-read-last-share c = search needs
 
 loop-holds : tie.Need-loop-holds Inv-loop μ-loop
-loop-holds c = todo-start _ 8 _ _ _ _ (c .before .pre)
+loop-holds c = remaining-start _ 8 _ _ _ _ (c .before .pre)
 
 draw-requires : tie.Need-draw-requires Inv-loop μ-loop
 draw-requires c κs = search needs
@@ -41,7 +41,7 @@ enum-told c = search needs
 returns : tie.Need-returns Inv-loop μ-loop
 returns c =
     let d = c .before .before in
-    cut-off refl (todo-ended (d .before .before .loop .inv) (d .before .loop-test .taken) _ (d .draw .ensures) (c .enum-told .given .1))
+    cut-off refl (remaining-ended (d .before .before .loop .inv) (d .before .loop-test .taken) _ (d .draw .ensures) (c .enum-told .given .1))
 
 mul-add-mod : tie.Need-mul-add-mod Inv-loop μ-loop
 mul-add-mod c = search needs
@@ -53,7 +53,7 @@ add-mod-requires : tie.Need-add-mod-requires Inv-loop μ-loop
 add-mod-requires c κs =
     let d = c .before .before .before in
     let l = d .before .before .loop .inv in
-    (held-at (l .held) _, todo-draw l (d .before .loop-test .taken) _ (d .draw .ensures) (c .before .r .given .1))
+    (held-at (l .held) _, remaining-draw l (d .before .loop-test .taken) _ (d .draw .ensures) (c .before .r .given .1))
 
 mul-words : tie.Need-mul-words Inv-loop μ-loop
 mul-words c = search needs
@@ -66,7 +66,7 @@ sub-mod-requires c κs =
     let g = c .before .before in
     let d = g .before .before in
     let l = d .before .before .loop .inv in
-    (l .below, todo-draw l (d .before .loop-test .taken) _ (d .draw .ensures) (g .r .given .1))
+    (l .below, remaining-draw l (d .before .loop-test .taken) _ (d .draw .ensures) (g .r .given .1))
 
 add-i : tie.Need-add-i Inv-loop μ-loop
 add-i c = search needs
@@ -78,7 +78,7 @@ loop-again : tie.Need-loop-again Inv-loop μ-loop
 loop-again c =
     let g = c .before .before .before in
     let d = g .before .before in
-    todo-more (d .before .before .loop .inv) (d .before .loop-test .taken) _ (d .draw .ensures) (g .r .given .1) (c .before .add-mod .ensures) (c .sub-mod .ensures)
+    remaining-more (d .before .before .loop .inv) (d .before .loop-test .taken) _ (d .draw .ensures) (g .r .given .1) (c .before .add-mod .ensures) (c .sub-mod .ensures)
 
 mul-words-2 : tie.Need-mul-words-2 Inv-loop μ-loop
 mul-words-2 c = search needs
@@ -87,7 +87,7 @@ array-write-words-2 : tie.Need-array-write-words-2 Inv-loop μ-loop
 array-write-words-2 c = search needs
 
 returns-2 : tie.Need-returns-2 Inv-loop μ-loop
-returns-2 c = let l = c .before .loop .inv in whole refl (todo-words l) (todo-none l (c .loop-test .left))
+returns-2 c = let l = c .before .loop .inv in whole refl (remaining-words l) (remaining-none l (c .loop-test .left))
 
 pub refresh-spec : {M : Type 1} → statement M
 refresh-spec =

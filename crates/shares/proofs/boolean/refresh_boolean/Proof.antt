@@ -10,13 +10,13 @@ use Rattle.draws.specs.Draws.{run}
 use Rattle.shares.specs.Sharing.{boolean}
 use Rattle.shares.specs.Refresh.{refresh}
 use Rattle.shares.proofs.ArraysLaws.{whole, cut-off}
-use Rattle.shares.proofs.TurnLaws.{ToDo, todo-start, todo-words, todo-none, todo-ended, todo-more}
+use Rattle.shares.proofs.TurnLaws.{Remaining, remaining-start, remaining-words, remaining-none, remaining-ended, remaining-more}
 use Rattle.shares.proofs.boolean.refresh_boolean.Statement.{statement}
 use Rattle.shares.proofs.boolean.refresh_boolean.Tie as tie
 
 abbrev Inv-loop : tie.InvT-loop
 Inv-loop n k tape m words₀ cur₀ last last-share₀ i₀ words cur last-share i =
-    ToDo (boolean k) 8 n tape (run (refresh (boolean k) (take n words₀)) tape cur₀) i words last-share cur
+    Remaining (boolean k) 8 n tape (run (refresh (boolean k) (take n words₀)) tape cur₀) i words last-share cur
 
 abbrev μ-loop : tie.MeasureT-loop
 μ-loop n k tape m words₀ cur₀ last last-share₀ i₀ words cur last-share i = last - i
@@ -40,7 +40,7 @@ array-read-last-share : tie.Need-array-read-last-share Inv-loop μ-loop
 array-read-last-share c = search needs
 
 loop-holds : tie.Need-loop-holds Inv-loop μ-loop
-loop-holds c = todo-start (boolean (c .before .before .args .k)) 8 _ _ _ _ (c .before .before .pre .1)
+loop-holds c = remaining-start (boolean (c .before .before .args .k)) 8 _ _ _ _ (c .before .before .pre .1)
 
 draw-requires : tie.Need-draw-requires Inv-loop μ-loop
 draw-requires c κs = rw (c .before .before .power .ensures) (c .before .before .before .before .pre .1 .two)
@@ -54,7 +54,7 @@ enum-told c = search needs
 returns : tie.Need-returns Inv-loop μ-loop
 returns c =
     let d = c .before .before in
-    cut-off refl (todo-ended (d .before .before .loop .inv) (d .before .loop-test .taken) _ (told d) (c .enum-told .given .1))
+    cut-off refl (remaining-ended (d .before .before .loop .inv) (d .before .loop-test .taken) _ (told d) (c .enum-told .given .1))
 
 mul-words : tie.Need-mul-words Inv-loop μ-loop
 mul-words c = search needs
@@ -79,7 +79,7 @@ unfolding xor
 loop-again c =
     let g = c .before in
     let d = g .before .before in
-    todo-more (d .before .before .loop .inv) (d .before .loop-test .taken) _ (told d) (g .r .given .1) refl refl
+    remaining-more (d .before .before .loop .inv) (d .before .loop-test .taken) _ (told d) (g .r .given .1) refl refl
 
 mul-words-3 : tie.Need-mul-words-3 Inv-loop μ-loop
 mul-words-3 c = search needs
@@ -88,7 +88,7 @@ array-write-words-2 : tie.Need-array-write-words-2 Inv-loop μ-loop
 array-write-words-2 c = search needs
 
 returns-2 : tie.Need-returns-2 Inv-loop μ-loop
-returns-2 c = let l = c .before .loop .inv in whole refl (todo-words l) (todo-none l (c .loop-test .left))
+returns-2 c = let l = c .before .loop .inv in whole refl (remaining-words l) (remaining-none l (c .loop-test .left))
 
 pub refresh-boolean-spec : {M : Type 1} → statement M
 refresh-boolean-spec =
