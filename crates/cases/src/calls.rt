@@ -11,12 +11,11 @@ use words::power;
 
 pub const ROUNDS: u32 = 600;
 
-pub fn name(gadget: u32) {
+pub fn name(gadget: u32) -> bool {
     match gadget {
         1 => io::write_all(1, b"refresh"),
         _ => io::write_all(1, b"refresh_boolean"),
     }
-    ;
 }
 
 fn call(gadget: u32, shares: &[u32], tape: &[u32], a: u32, out: &mut [u32]) -> Answer {

@@ -20,11 +20,7 @@ pub fn refresh(shares: [u32; 8], n: usize, m: u32, cursor: Cursor, tape: &[u32])
     let mut last_share = words[last];
     for i in 0..last {
         let Draw::Got(r, next) = cur.draw(tape, m) else {
-            return Shared {
-                words,
-                cursor: cur,
-                ok: false,
-            };
+            return Shared::ended();
         };
         words[i] = add_mod(words[i], r, m);
         last_share = sub_mod(last_share, r, m);

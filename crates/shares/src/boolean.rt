@@ -21,11 +21,7 @@ pub fn refresh_boolean(shares: [u32; 8], n: usize, k: u32, cursor: Cursor, tape:
     let mut last_share = words[last];
     for i in 0..last {
         let Draw::Got(r, next) = cur.draw(tape, m) else {
-            return Shared {
-                words,
-                cursor: cur,
-                ok: false,
-            };
+            return Shared::ended();
         };
         words[i] = words[i] ^ r;
         last_share = last_share ^ r;

@@ -5,10 +5,25 @@ mod boolean;
 pub use arithmetic::refresh;
 pub use boolean::refresh_boolean;
 use tape::Cursor;
+ghost use mathlib.Core.Path.{_≡_};
+ghost use mathlib.Core.Bool.{false};
 
 // What a gadget gives: its shares and the place of the next word, or, where `ok` is false, that the tape has ended.
 pub struct Shared {
     pub words: [u32; 8],
     pub cursor: Cursor,
     pub ok: bool,
+}
+
+impl Shared {
+    // The tape has ended. No share is handed on, half refreshed or not.
+    pub fn ended() -> Self
+        ensures { λ r. ⌜ r .ok ≡ false ⌝ }
+    {
+        Shared {
+            words: [0u32; 8],
+            cursor: Cursor::start(),
+            ok: false,
+        }
+    }
 }

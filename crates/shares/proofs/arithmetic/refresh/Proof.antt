@@ -38,10 +38,14 @@ enum-known-r c = search needs
 enum-told : tie.Need-enum-told Inv-loop μ-loop
 enum-told c = search needs
 
+ended-requires : tie.Need-ended-requires Inv-loop μ-loop
+ended-requires c κs = search needs
+
 returns : tie.Need-returns Inv-loop μ-loop
 returns c =
-    let d = c .before .before in
-    cut-off refl (remaining-ended (d .before .before .loop .inv) (d .before .loop-test .taken) _ (d .draw .ensures) (c .enum-told .given .1))
+    let e = c .before in
+    let d = e .before .before in
+    cut-off (c .ended .ensures) (remaining-ended (d .before .before .loop .inv) (d .before .loop-test .taken) _ (d .draw .ensures) (e .enum-told .given .1))
 
 mul-add-mod : tie.Need-mul-add-mod Inv-loop μ-loop
 mul-add-mod c = search needs
@@ -102,6 +106,7 @@ refresh-spec =
     draw-requires
     enum-known-r
     enum-told
+    ended-requires
     returns
     mul-add-mod
     array-read-add-mod
