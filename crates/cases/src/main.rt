@@ -1,8 +1,10 @@
 // Runs the public gadgets on the hand cases and on many pseudo-random calls, and prints for each gadget and share count how often
 // each number was answered and a checksum of everything answered. docs/CASES.md says which calls are made.
 mod calls;
+mod inputs;
 mod tally;
 
+use inputs::Pair;
 use tape::Cursor;
 use tape::Draw;
 use words::Q;
@@ -14,6 +16,12 @@ fn text(s: &[u8]) {
 fn number(x: u32) {
     text(b" ");
     io::print_decimal(1, x as u64);
+}
+
+fn numbers(words: &[u32]) {
+    for i in 0..words.len() {
+        number(words[i]);
+    }
 }
 
 // A draw below q from a tape of two words: what it gives, and the words used.
@@ -29,14 +37,32 @@ fn draw_below_q(a: u32, b: u32) {
     text(b"\n");
 }
 
+// A call on two shares: the number, the words used, and the output slice, which begins as 7s.
+fn on_two(gadget: u32, shares: &[u32], tape: &[u32], p: Pair) {
+    let mut out = [7u32; 2];
+    let told = calls::call(gadget, shares, tape, p, &mut out);
+    calls::name(gadget);
+    number(told.number);
+    number(tally::low(told.used));
+    numbers(&out);
+    text(b"\n");
+}
+
+fn by_hand() {
+    draw_below_q(8380417, 8380416);
+    draw_below_q(8388608, 0);
+    on_two(3, &[7, 8], &[3, 4], Pair::of(10, 1));
+    on_two(3, &[7, 8], &[12, 3, 6, 4], Pair::of(10, 1));
+    on_two(3, &[7, 8], &[12, 3, 6], Pair::of(10, 1));
+    on_two(4, &[6, 7], &[0, 0, 3], Pair::of(3, 0));
+}
+
 fn line(gadget: u32, n: usize) {
     let t = calls::all_rounds(gadget, n);
     calls::name(gadget);
     number(tally::low(n));
     let counts = t.counts;
-    for i in 0..6 {
-        number(counts[i]);
-    }
+    numbers(&counts);
     number(t.sum);
     text(b"\n");
 }
@@ -48,9 +74,8 @@ fn lines(gadget: u32) {
 }
 
 fn main() {
-    draw_below_q(8380417, 8380416);
-    draw_below_q(8388608, 0);
-    for gadget in 1..3 {
+    by_hand();
+    for gadget in 1..5 {
         lines(gadget);
     }
 }

@@ -1,10 +1,22 @@
 -- The cases by hand, computed on the definitions.
 use mathlib.Core.Path.{refl}
 use lib.Count.{leadingZeros}
+use Rattle.numbers.specs.Modulo.{addMod, subMod, negMod, xor}
 use Rattle.numbers.specs.Bits.{bitsOf}
+use Rattle.numbers.specs.Lists.{change, along, over}
 use Rattle.tape.specs.Tape.{lowBits, drawFrom, drawAt}
+use Rattle.draws.specs.Draws.{after, next, run, bind, turns, each}
+use Rattle.shares.specs.Sharing.{move}
+use Rattle.shares.specs.Refresh.{turn, refresh}
+use Rattle.shift.specs.Halving.{negated, join, joinTurn, sharedParity, less, moveParity, evened, halves, halving}
+use Rattle.shift.specs.Shift.{shift}
+use Rattle.shift.specs.ToBoolean.{withBit, bitsFrom, toBoolean}
+use Rattle.gate.specs.Checks.{inside, allBelow, firstFailing, checks}
+use Rattle.gate.specs.Told.{refusal, ranTold}
+use Rattle.gate.specs.Gadget.{silentSteps, closed, checkNumber, tells}
+use Rattle.gadgets.specs.Shift.{shiftRange, shiftGadget, toBooleanGadget}
 use Rattle.demands.specs.Cases.{Cases}
 
 pub cases : Cases
-unfolding leadingZeros bitsOf lowBits drawFrom drawAt
-cases = record { draw-skips = refl; draw-cuts = refl }
+unfolding leadingZeros addMod subMod negMod xor bitsOf change along over lowBits drawFrom drawAt after next run bind turns each move turn refresh negated join joinTurn sharedParity less moveParity evened halves halving shift withBit bitsFrom toBoolean inside allBelow firstFailing checks refusal ranTold silentSteps closed checkNumber tells shiftRange shiftGadget toBooleanGadget
+cases = record { draw-skips = refl; draw-cuts = refl; shift-draws = refl; shift-skips = refl; shift-ends = refl; to-boolean = refl }

@@ -6,5 +6,6 @@ pub mod Settings
 pub mod Demands
 pub mod Unique
 pub mod Refresh
+pub mod Shift
 pub mod Cases
 pub mod Worked

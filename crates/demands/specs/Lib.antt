@@ -5,5 +5,6 @@ pub mod Settings
 pub mod Unique
 pub mod Demands
 pub mod Refresh
+pub mod Shift
 pub mod Cases
 pub mod Worked

@@ -1,14 +1,14 @@
 -- Laws of outcomes and of plans, proved once for every program.
 use mathlib.Core.Path.{_≡_, refl, sym, ap, subst, subst₂, _∙_}
 use mathlib.Core.List.{List, [], _∷_, _++_}
-use Prim.Native.Nat.{ℕ, zero, suc, _+_, _-_, _≤_, _<_}
+use Prim.Native.Nat.{ℕ, zero, suc, _+_, _-_, _*_, _≤_, _<_}
 use native.Mathlib.Omega.{arith}
-use lib.ListN.{length, drop, replicate}
+use lib.ListN.{length, drop, replicate, replicate-append-replicate}
 use Rattle.numbers.specs.Lists.{Words}
 use Rattle.numbers.proofs.WordsLaws.{words-head, words-tail}
 use Rattle.tape.specs.declared.Cursor.{Cursor}
 use Rattle.tape.specs.Tape.{Ran, ended, ran, drawAt}
-use Rattle.draws.specs.Draws.{Draws, done, draw, after, next, run, bind}
+use Rattle.draws.specs.Draws.{Draws, done, draw, after, next, run, bind, turns}
 use Rattle.draws.specs.Plan.{drawAll, skipFrom, skipped, places}
 use Rattle.draws.specs.Anew.{Same}
 use Rattle.draws.proofs.Outcomes.{Always, holds, whatever, Plan, stops, draws, Gives, feed, Fits, none-left, one-more}
@@ -53,6 +53,18 @@ gives-done h = record { plan = stops; always = holds h }
 
 pub gives-draw : {A : Type 0} {P : A → Type 0} {M : ℕ} {k : ℕ → Draws A} {ms : List ℕ} → ((r : ℕ) → r < M → Gives P (k r) ms) → Gives P (draw M k) (M ∷ ms)
 gives-draw h = record { plan = draws (λ r l. h r l .plan); always = whatever (λ r l. h r l .always) }
+
+-- turns that each make d draws below M
+pub gives-turns : {A : Type 0} (P : ℕ → A → Type 0) (f : ℕ → A → Draws A) (d M top : ℕ) →
+    ((i : ℕ) (a : A) → i < top → P i a → Gives (P (suc i)) (f i a) (replicate d M)) → (i k : ℕ) (a : A) → i + k ≤ top → P i a →
+    Gives (P (i + k)) (turns f i k a) (replicate (k * d) M)
+unfolding turns
+gives-turns P f d M top g i zero a h p = let e : i + 0 ≡ i = omega arith in let z : 0 * d ≡ 0 = omega arith in rw (e, z) (gives-done p)
+gives-turns P f d M top g i (suc k) a h p =
+    let e : i + suc k ≡ suc i + k = omega arith in
+    let z : suc k * d ≡ d + k * d = omega arith in
+    rw (e, z, ← replicate-append-replicate d (k * d) M)
+    (gives-bind (λ b. turns f (suc i) k b) (replicate (k * d) M) (g i a (omega arith) p) (λ b q. gives-turns P f d M top g (suc i) k b (omega arith) q))
 
 -- what always holds may be weakened
 pub always-as : {A : Type 0} {P Q : A → Type 0} {d : Draws A} → ((a : A) → P a → Q a) → Always P d → Always Q d

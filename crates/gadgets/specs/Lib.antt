@@ -1,1 +1,2 @@
 pub mod Refresh
+pub mod Shift

@@ -14,11 +14,11 @@ use Rattle.numbers.specs.Tests.{both, pick}
 use Rattle.numbers.specs.Lists.{Words}
 use Rattle.gate.specs.Checks.{inside, allBelow, firstFailing, checks}
 
-both-left : (a b : Bool) → both a b ≡ true → a ≡ true
+pub both-left : (a b : Bool) → both a b ≡ true → a ≡ true
 both-left true b e = refl
 both-left false b e = e
 
-both-right : (a b : Bool) → both a b ≡ true → b ≡ true
+pub both-right : (a b : Bool) → both a b ≡ true → b ≡ true
 both-right true b e = e
 both-right false b e = cc
 

@@ -1,6 +1,6 @@
 -- Laws of what a gadget tells.
 use mathlib.Core.Path.{_≡_, refl, sym, ap, ap₂, _∙_}
-use mathlib.Core.Bool.{Bool}
+use mathlib.Core.Bool.{Bool, true}
 use mathlib.Core.List.{List}
 use Prim.Native.Nat.{ℕ, _≤_}
 use native.Mathlib.Omega.{arith}
@@ -75,6 +75,18 @@ pub on-copy : (d : List ℕ → Draws (List ℕ)) {shares words : List ℕ} (tap
     Copied shares words → room ≡ length shares → c ≡ start → Gave (length shares) M s (run (d (take (length shares) words)) tape c) → shared room s ≡ run (d shares) tape start
 on-copy d tape {s = s} w e f g = ap (λ (n : ℕ). shared n s) e ∙ g .is ∙ ap₂ (λ (xs : List ℕ) (p : Cursor). run (d xs) tape p) (w .first) f
 
+-- and so did the closing refresh after them
+pub closed-on-copy : (d : List ℕ → Draws (List ℕ)) (output : Sharing) {shares words : List ℕ} (tape : List ℕ) {room M N : ℕ} {c : Cursor} {s r : Shared} →
+    Copied shares words → room ≡ length shares → c ≡ start → Gave (length shares) M s (run (d (take (length shares) words)) tape c) →
+    Gave (length shares) N r (next (shared (length shares) s) (λ xs p. run (refresh output xs) tape p)) → shared room r ≡ run (bind (d shares) (refresh output)) tape start
+closed-on-copy d output {shares} tape {r = r} w e f g h =
+    ap (λ (n : ℕ). shared n r) e ∙ h .is ∙ ap (λ x. next x (λ xs p. run (refresh output xs) tape p)) (on-copy d tape w refl f g) ∙ sym (run-bind (d shares) (refresh output) tape start)
+
 -- the copied shares, below M where no check failed
 pub held : {shares words : List ℕ} {room : ℕ} {inRange : Bool} {M : ℕ} → Passed shares room inRange M → 2 ≤ M → Copied shares words → Held 8 (length shares) M words
 held {M = M} p two w = record { least = p .least; most = p .most; two = two; all = w .rest M (omega arith) (p .below) }
+
+-- and what the steps gave of them, below N
+pub held-given : {shares : List ℕ} {room : ℕ} {inRange : Bool} {M N : ℕ} {s : Shared} {x : Ran (List ℕ)} → Passed shares room inRange M → 2 ≤ N →
+    Gave (length shares) N s x → s .ok ≡ true → Held 8 (length shares) N (s .words)
+held-given p two g t = record { least = p .least; most = p .most; two = two; all = g .below t }

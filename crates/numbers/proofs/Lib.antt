@@ -4,3 +4,5 @@ pub mod GroupLaws
 pub mod WordsLaws
 pub mod FoldLaws
 pub mod BitsLaws
+pub mod AlongLaws
+pub mod SumLaws

@@ -15,6 +15,13 @@ words-head w = w .below 0 (omega arith)
 pub words-tail : {k M x : ℕ} {xs : List ℕ} → Words (suc k) M (x ∷ xs) → Words k M xs
 words-tail {k} {xs = xs} w = let e : suc (length xs) ≡ suc k = w .size in record { size = omega arith; below = λ i h. w .below (suc i) (suc-le-suc h) }
 
+pub words-cons : {k M x : ℕ} {xs : List ℕ} → x < M → Words k M xs → Words (suc k) M (x ∷ xs)
+words-cons {k} {M} {x} {xs} h w = record { size = ap suc (w .size); below = go }
+  where
+    go : (i : ℕ) → i < suc k → getD (x ∷ xs) i 0 < M
+    go zero l = h
+    go (suc i) l = w .below i (le-of-suc-le-suc l)
+
 -- past its end a list reads 0
 pub words-at : {n M : ℕ} {xs : List ℕ} → 0 < M → Words n M xs → (i : ℕ) → getD xs i 0 < M
 words-at {n} {M} {xs} h w i = go (decLt i n)

@@ -1,6 +1,7 @@
 -- Laws of exclusive or, by halves and parities.
-use mathlib.Core.Path.{_≡_, refl, sym, ap, _∙_}
-use Prim.Native.Nat.{ℕ, zero, suc, _+_, _/_, _%_, _^_, _<_}
+use mathlib.Core.Path.{_≡_, refl, sym, ap, ap₂, _∙_}
+use Prim.Native.Nat.{ℕ, zero, suc, _+_, _*_, _/_, _%_, _^_, _<_}
+use native.Mathlib.Nat.{pow-suc, mod-eq-of-lt}
 use native.Mathlib.Omega.{arith}
 use lib.Arith.{bin-ind}
 use lib.Bits as Bits
@@ -60,3 +61,37 @@ xor-assoc a =
     (λ n ih b c. by-digits (xor (xor n b) c) (xor n (xor b c))
     (simp xor-half (ih (b / 2) (c / 2)))
     (assoc-odd n b c .eq)) a
+
+-- of two bits
+pub xor-bit : (x y : ℕ) → xor (x % 2) (y % 2) ≡ (x + y) % 2
+xor-bit x y =
+    sym (mod-eq-of-lt (xor-below 1 (x % 2) (y % 2) (omega arith) (omega arith))) ∙ xor-odd (x % 2) (y % 2) .eq ∙ omega arith
+
+-- of two numbers that are in two parts, the lower below 2^b
+pub xor-parts : (b x y u v : ℕ) → x < 2 ^ b → y < 2 ^ b → xor (x + 2 ^ b * u) (y + 2 ^ b * v) ≡ xor x y + 2 ^ b * xor u v
+xor-parts zero x y u v hx hy =
+    let ex : x ≡ 0 = omega arith in
+    let ey : y ≡ 0 = omega arith in
+    let ez : xor 0 0 ≡ 0 = xor-self 0 in
+    rw (ex, ey, ez) (ap₂ xor (one u) (one v) ∙ sym (one (xor u v)))
+  where
+    one : (z : ℕ) → 0 + 2 ^ 0 * z ≡ z
+    one z = omega arith
+xor-parts (suc b) x y u v hx hy =
+    by-digits (xor (x + 2 ^ suc b * u) (y + 2 ^ suc b * v)) (xor x y + 2 ^ suc b * xor u v)
+    (xor-half (x + 2 ^ suc b * u) (y + 2 ^ suc b * v) ∙ ap₂ xor (half x u) (half y v)
+    ∙ xor-parts b (x / 2) (y / 2) u v (under x hx) (under y hy)
+    ∙ ap (λ (z : ℕ). z + 2 ^ b * xor u v) (sym (xor-half x y)) ∙ sym (half (xor x y) (xor u v)))
+    (xor-odd (x + 2 ^ suc b * u) (y + 2 ^ suc b * v) .eq ∙ odd ∙ sym (low (xor x y) (xor u v) ∙ xor-odd x y .eq))
+  where
+    half : (z w : ℕ) → (z + 2 ^ suc b * w) / 2 ≡ z / 2 + 2 ^ b * w
+    half z w = rw pow-suc (omega arith)
+
+    under : (z : ℕ) → z < 2 ^ suc b → z / 2 < 2 ^ b
+    under z h = omega (arith, pow-suc 2 b)
+
+    low : (z w : ℕ) → (z + 2 ^ suc b * w) % 2 ≡ z % 2
+    low z w = rw pow-suc (omega arith)
+
+    odd : (x + 2 ^ suc b * u + (y + 2 ^ suc b * v)) % 2 ≡ (x + y) % 2
+    odd = rw pow-suc (omega arith)

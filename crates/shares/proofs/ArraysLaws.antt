@@ -8,7 +8,9 @@ use lib.ListN.{getD, take, set}
 use borrow.Author.Tests.{not-true, not-false}
 use Rattle.numbers.specs.Lists.{Words}
 use Rattle.numbers.proofs.WordsLaws.{words-at, words-set}
+use Rattle.tape.specs.declared.Cursor.{Cursor}
 use Rattle.tape.specs.Tape.{Ran, ended, ran}
+use Rattle.draws.specs.Draws.{after, next}
 use Rattle.shares.specs.declared.Shared.{Shared}
 use Rattle.shares.specs.Arrays.{Held, shared, Gave}
 
@@ -33,6 +35,16 @@ module _ (n : ℕ) (r : Shared) where
   pub shared-none : not (r .ok) ≡ true → shared n r ≡ ended
   unfolding shared
   shared-none t = rw (not-true (r .ok) t)
+
+  -- and what follows it
+  module _ {A : Type 0} (f : List ℕ → Cursor → Ran A) where
+    pub next-whole : not (r .ok) ≡ false → f (take n (r .words)) (r .cursor) ≡ next (shared n r) f
+    unfolding next after
+    next-whole t = rw (shared-whole t)
+
+    pub next-none : not (r .ok) ≡ true → ended ≡ next (shared n r) f
+    unfolding next after
+    next-none t = rw (shared-none t)
 
 module _ {n M : ℕ} {r : Shared} {x : Ran (List ℕ)} where
   -- what a call gave

@@ -1,4 +1,5 @@
 pub mod SharingLaws
+pub mod MoveLaws
 pub mod ArraysLaws
 pub mod TurnLaws
 pub mod RefreshLaws

@@ -12,9 +12,10 @@ use Rattle.numbers.proofs.FoldLaws.{fold-below, fold-add, fold-sub}
 use Rattle.draws.specs.Draws.{bind, turns, each}
 use Rattle.draws.proofs.Outcomes.{Gives}
 use Rattle.draws.proofs.PlanLaws.{gives-done, gives-draw, gives-as}
-use Rattle.shares.specs.Sharing.{Sharing, bound, value, plus, minus}
-use Rattle.shares.specs.Refresh.{stir, turn, refresh, refreshPlan}
-use Rattle.shares.proofs.SharingLaws.{Shares, group, fold-value}
+use Rattle.shares.specs.Sharing.{Sharing, bound, value, move}
+use Rattle.shares.specs.Refresh.{turn, refresh, refreshPlan}
+use Rattle.shares.proofs.SharingLaws.{Shares}
+use Rattle.shares.proofs.MoveLaws.{move-keeps}
 
 -- a refresh of d + 1 shares, as turns
 pub refresh-turns : (s : Sharing) (d : ℕ) (xs : List ℕ) → length xs ≡ suc d → refresh s xs ≡ turns (turn s d) 0 d xs
@@ -22,38 +23,11 @@ unfolding refresh each
 refresh-turns s d xs e = let l : length xs - 1 ≡ d = omega arith in rw (l, sub-zero)
 
 module _ (s : Sharing) (pos : 0 < bound s) where
-  open Group (group s pos) using (add-below, sub-below)
-
-  module _ {n : ℕ} (last i r : ℕ) {xs : List ℕ} (h : r < bound s) (w : Words n (bound s) xs) where
-    added : Words n (bound s) (change (λ x. plus s x r) i xs)
-    added = words-change (λ x. plus s x r) i w (add-below (getD xs i 0) r (words-at pos w i) h)
-
-    pub stir-words : Words n (bound s) (stir s last i r xs)
-    unfolding stir
-    stir-words = let u = added in words-change (λ x. minus s x r) last u (sub-below _ r (words-at pos u last) h)
-
-  stir-keeps : {n : ℕ} (last i r v : ℕ) (xs : List ℕ) → r < bound s → last < n → i < n → Shares s n v xs → Shares s n v (stir s last i r xs)
-  unfolding stir
-  stir-keeps last i r v xs h hl hi a =
-      let w = a .words in
-      let u : List ℕ = change (λ x. plus s x r) i xs in
-      let wu = added last i r h w in
-      let t : List ℕ = stir s last i r xs in
-      let wt = stir-words last i r h w in
-      record {
-        words = wt;
-        is =
-            sym (fold-value s pos t)
-            ∙ add-cancel (group s pos) (fold (plus s) t) (fold (plus s) xs) r (fold-below (group s pos) t wt) (fold-below (group s pos) xs w) h
-            (fold-sub (group s pos) last r u h wu (omega (arith, wu .size)) ∙ fold-add (group s pos) i r xs h w (omega (arith, w .size)))
-            ∙ fold-value s pos xs ∙ a .is;
-      }
-
   turns-keep : {n : ℕ} (last i k v : ℕ) (xs : List ℕ) → last < n → i + k ≤ n → Shares s n v xs → Gives (Shares s n v) (turns (turn s last) i k xs) (replicate k (bound s))
   unfolding turns turn bind
   turns-keep last i zero v xs hl h a = gives-done a
   turns-keep last i (suc k) v xs hl h a =
-      gives-draw (λ r l. turns-keep last (suc i) k v (stir s last i r xs) hl (omega arith) (stir-keeps last i r v xs l hl (omega arith) a))
+      gives-draw (λ r l. turns-keep last (suc i) k v (move s last i r xs) hl (omega arith) (move-keeps s pos last i r l hl (omega arith) a))
 
   -- whatever the draws, the refresh gives as many words below the bound, of the same value
   pub refresh-keeps : (n v : ℕ) (xs : List ℕ) → 0 < n → Shares s n v xs → Gives (Shares s n v) (refresh s xs) (refreshPlan s n)

@@ -20,9 +20,10 @@ use Rattle.draws.proofs.Outcomes.{feed, Fits, merged, Marks}
 use Rattle.draws.proofs.PlanLaws.{always-feed, words-fit, fits-length}
 use Rattle.draws.proofs.MarksLaws.{all-marked, all-merged}
 use Rattle.draws.proofs.AnewLaws.{exactly-as}
-use Rattle.shares.specs.Sharing.{Sharing, bound, value, plus, minus}
-use Rattle.shares.specs.Refresh.{stir, turn, refresh, refreshPlan}
+use Rattle.shares.specs.Sharing.{Sharing, bound, value, plus, minus, move}
+use Rattle.shares.specs.Refresh.{turn, refresh, refreshPlan}
 use Rattle.shares.specs.Closing.{closingMarks, SameBut}
+use Rattle.shares.proofs.MoveLaws.{move-length, move-to, move-other}
 use Rattle.shares.proofs.SharingLaws.{group, fold-value}
 use Rattle.shares.proofs.RefreshLaws.{refresh-turns, refresh-keeps}
 
@@ -91,25 +92,13 @@ module _ {M : ℕ} {add sub : ℕ → ℕ → ℕ} (G : Group M add sub) {n : �
 -- ---- each draw of a refresh is what its share changes by
 
 module _ (s : Sharing) where
-  stir-at : (last i r : ℕ) (xs : List ℕ) → i ≢ last → i < length xs → getD (stir s last i r xs) i 0 ≡ plus s (getD xs i 0) r
-  unfolding stir
-  stir-at last i r xs n h = change-other _ last (change (λ x. plus s x r) i xs) i n ∙ change-here (λ x. plus s x r) i xs h
-
-  stir-other : (last i r : ℕ) (xs : List ℕ) (j : ℕ) → j ≢ i → j ≢ last → getD (stir s last i r xs) j 0 ≡ getD xs j 0
-  unfolding stir
-  stir-other last i r xs j a b = change-other _ last (change (λ x. plus s x r) i xs) j b ∙ change-other (λ x. plus s x r) i xs j a
-
-  stir-length : (last i r : ℕ) (xs : List ℕ) → length (stir s last i r xs) ≡ length xs
-  unfolding stir
-  stir-length last i r xs = length-change _ last (change (λ x. plus s x r) i xs) ∙ length-change (λ x. plus s x r) i xs
-
   turns-before : (last i k : ℕ) (xs rs : List ℕ) (j : ℕ) → length rs ≡ k → j < i → i + k ≤ last → getD (feed (turns (turn s last) i k xs) rs) j 0 ≡ getD xs j 0
   unfolding feed turns turn bind
   turns-before last i zero xs rs j e h l = refl
   turns-before last i (suc k) xs [] j e h l = absurd (omega arith)
   turns-before last i (suc k) xs (r ∷ rs) j e h l =
-      turns-before last (suc i) k (stir s last i r xs) rs j (omega arith) (omega arith) (omega arith)
-      ∙ stir-other last i r xs j (omega arith) (omega arith)
+      turns-before last (suc i) k (move s last i r xs) rs j (omega arith) (omega arith) (omega arith)
+      ∙ move-other s last i r xs j (omega arith) (omega arith)
 
   -- share i + j has draw j added
   turns-at : (last i k : ℕ) (xs rs : List ℕ) (j : ℕ) → length rs ≡ k → j < k → i + k ≤ last → last < length xs →
@@ -120,13 +109,13 @@ module _ (s : Sharing) where
   turns-at last i (suc k) xs (r ∷ rs) zero e h l o =
       let f : i + 0 ≡ i = omega arith in
       rw f
-      (turns-before last (suc i) k (stir s last i r xs) rs i (omega arith) (omega arith) (omega arith)
-      ∙ stir-at last i r xs (omega arith) (omega arith))
+      (turns-before last (suc i) k (move s last i r xs) rs i (omega arith) (omega arith) (omega arith)
+      ∙ move-to s last i r xs (omega arith) (omega arith))
   turns-at last i (suc k) xs (r ∷ rs) (suc j) e h l o =
       let f : i + suc j ≡ suc i + j = omega arith in
       rw f
-      (turns-at last (suc i) k (stir s last i r xs) rs j (omega arith) (omega arith) (omega arith) (omega (arith, stir-length last i r xs))
-      ∙ ap (λ (x : ℕ). plus s x (getD rs j 0)) (stir-other last i r xs (suc i + j) (omega arith) (omega arith)))
+      (turns-at last (suc i) k (move s last i r xs) rs j (omega arith) (omega arith) (omega arith) (omega (arith, move-length s last i r xs))
+      ∙ ap (λ (x : ℕ). plus s x (getD rs j 0)) (move-other s last i r xs (suc i + j) (omega arith) (omega arith)))
 
   -- ---- so exactly one list of draws leads from ys to zs but for share j
   module _ (pos : 0 < bound s) (d : ℕ) {ys : List ℕ} (wy : Words (suc d) (bound s) ys) where

@@ -16,10 +16,11 @@ use Rattle.tape.proofs.DrawLaws.{got, got-none}
 use Rattle.draws.specs.Draws.{each, run}
 use Rattle.draws.proofs.DrawnLaws.{got-below}
 use Rattle.draws.proofs.RunLaws.{run-draw, run-ended, run-done, each-done, each-more, each-ended}
-use Rattle.shares.specs.Sharing.{Sharing, bound, plus, minus}
-use Rattle.shares.specs.Refresh.{stir, turn, refresh}
+use Rattle.shares.specs.Sharing.{Sharing, bound, plus, minus, move}
+use Rattle.shares.specs.Refresh.{turn, refresh}
 use Rattle.shares.specs.Arrays.{Held}
 use Rattle.shares.proofs.SharingLaws.{group}
+use Rattle.shares.proofs.MoveLaws.{move-take}
 use Rattle.shares.proofs.ArraysLaws.{held-at, held-set}
 
 -- at turn i of a refresh of n shares that began as x, with the last share in last-share: what is left to do gives the same as the whole
@@ -60,16 +61,10 @@ module _ {s : Sharing} {size n : ℕ} {tape : List ℕ} {x : Ran (List ℕ)} {i 
       pub remaining-draw : r < bound s
       remaining-draw = got-below d tape p (bound s) told e
 
-      stir-take : (ws : List ℕ) → take n (stir s (n - 1) i r ws) ≡ stir s (n - 1) i r (take n ws)
-      unfolding stir
-      stir-take ws =
-          take-change (λ y. minus s y r) n (n - 1) (change (λ y. plus s y r) i ws) (omega arith)
-          ∙ ap (change (λ y. minus s y r) (n - 1)) (take-change (λ y. plus s y r) n i ws (omega arith))
-
       -- a turn with the last share in a local
-      stirred : {v w : ℕ} → v ≡ plus s (getD words i 0) r → w ≡ minus s last-share r → set (set words i v) (n - 1) w ≡ stir s (n - 1) i r (set words (n - 1) last-share)
-      unfolding stir change
-      stirred {v} {w} f o =
+      moved : {v w : ℕ} → v ≡ plus s (getD words i 0) r → w ≡ minus s last-share r → set (set words i v) (n - 1) w ≡ move s (n - 1) i r (set words (n - 1) last-share)
+      unfolding move change
+      moved {v} {w} f o =
           let last : ℕ = n - 1 in
           let l : last < length (set words i v) = omega (arith, length-set words i v, a .held .all .size, a .held .most) in
           let g : plus s (getD (set words last last-share) i 0) r ≡ v = ap (λ y. plus s y r) (getD-set-other words last i last-share 0 (omega arith)) ∙ sym f in
@@ -91,6 +86,6 @@ module _ {s : Sharing} {size n : ℕ} {tape : List ℕ} {x : Ran (List ℕ)} {i 
             same =
                 sym (each-more (turn s (n - 1)) i (n - 1) (take n (set words (n - 1) last-share)) tape p h (take n y) c
                 (run-draw (bound s) _ tape p r c (got d told e) ∙ run-done _ tape c
-                ∙ ap (λ (l : List ℕ). ran l c) (sym (ap (take n) (stirred f o) ∙ stir-take (set words (n - 1) last-share)))))
+                ∙ ap (λ (l : List ℕ). ran l c) (sym (ap (take n) (moved f o) ∙ move-take s (n - 1) i r (set words (n - 1) last-share) n (omega arith) (omega arith)))))
                 ∙ a .same;
           }

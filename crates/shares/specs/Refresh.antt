@@ -2,17 +2,12 @@
 use mathlib.Core.List.{List}
 use Prim.Native.Nat.{ℕ, _-_}
 use lib.ListN.{length, replicate}
-use Rattle.numbers.specs.Lists.{change}
 use Rattle.draws.specs.Draws.{Draws, done, draw, each}
-use Rattle.shares.specs.Sharing.{Sharing, bound, plus, minus}
+use Rattle.shares.specs.Sharing.{Sharing, bound, move}
 
--- r is added to share i and taken from the last
-unfoldable pub stir : Sharing → ℕ → ℕ → ℕ → List ℕ → List ℕ
-stir s last i r xs = change (λ x. minus s x r) last (change (λ x. plus s x r) i xs)
-
--- one turn: a draw r below M (2^k), and the shares stirred by it
+-- one turn: a draw r below M (2^k), added to share i and taken from the last
 unfoldable pub turn : Sharing → ℕ → ℕ → List ℕ → Draws (List ℕ)
-turn s last i xs = draw (bound s) (λ r. done (stir s last i r xs))
+turn s last i xs = draw (bound s) (λ r. done (move s last i r xs))
 
 -- for each share but the last, in order, one turn
 unfoldable pub refresh : Sharing → List ℕ → Draws (List ℕ)

@@ -2,7 +2,7 @@
 use mathlib.Core.List.{List}
 use Prim.Native.Nat.{ℕ, _%_, _^_}
 use Rattle.numbers.specs.Modulo.{addMod, subMod, xor}
-use Rattle.numbers.specs.Lists.{sum, xorAll}
+use Rattle.numbers.specs.Lists.{sum, xorAll, change}
 
 -- an arithmetic sharing modulo M, or a Boolean one of width k
 pub data Sharing : Type 0 where
@@ -27,3 +27,7 @@ plus (boolean k) = xor
 abbrev pub minus : Sharing → ℕ → ℕ → ℕ
 minus (arithmetic M) = subMod M
 minus (boolean k) = xor
+
+-- r taken from one share and added to another
+unfoldable pub move : Sharing → (from to : ℕ) → ℕ → List ℕ → List ℕ
+move s from to r xs = change (λ x. minus s x r) from (change (λ x. plus s x r) to xs)

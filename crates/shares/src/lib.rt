@@ -1,9 +1,12 @@
-// Shares in small arrays by value, n beside them, and both refreshes.
+// Shares in small arrays by value, n beside them; both refreshes, and what closes with them.
 mod arithmetic;
 mod boolean;
+mod closing;
 
 pub use arithmetic::refresh;
 pub use boolean::refresh_boolean;
+pub use closing::close;
+pub use closing::close_boolean;
 use tape::Cursor;
 ghost use mathlib.Core.Path.{_≡_};
 ghost use mathlib.Core.Bool.{false};

@@ -90,6 +90,54 @@ fn refresh_xor(shares: &[u64], width: u32, tape: &mut Tape) -> Option<Vec<u64>> 
     Some(added.chain([taken]).collect())
 }
 
+/// Shares of the parity of the sum, not reduced. All of them are negated whenever an odd share joins, so a draw or a parity
+/// counts with the sign that the odd shares after it give. The draws of a refresh come before the share that joins, its
+/// parity after.
+fn parity_of_sum(shares: &[u64], modulus: u64, tape: &mut Tape) -> Option<Vec<i128>> {
+    let others = shares.len() - 1;
+    let draws: Vec<Vec<u64>> = (0..others).map(|_| tape.draws(others, modulus)).collect::<Option<_>>()?;
+    let parity = |i: usize| i128::from(shares[i] % 2);
+    let sign = |from: usize| (from..=others).map(|i| 1 - 2 * parity(i)).product::<i128>();
+    let parities: i128 = (0..=others).map(|i| parity(i) * sign(i + 1)).sum();
+    let drawn = |share: usize| (1..=others).map(|i| i128::from(draws[i - 1][share]) * sign(i)).sum::<i128>();
+    let mut sums: Vec<i128> = (0..others).map(drawn).collect();
+    sums.push(-sums.iter().sum::<i128>());
+    sums[0] += parities;
+    Some(sums)
+}
+
+fn value(shares: &[u64], modulus: u64) -> u64 {
+    shares.iter().sum::<u64>() % modulus
+}
+
+/// From shares below the modulus, which is even, to shares of half the value below half of it. The parities move all at once.
+fn halving(shares: &[u64], modulus: u64, tape: &mut Tape) -> Option<Vec<u64>> {
+    let sums = parity_of_sum(shares, modulus, tape)?;
+    let reduced = |x: i128| x.rem_euclid(i128::from(modulus)) as u64;
+    let even: Vec<u64> = shares.iter().zip(sums).map(|(&x, a)| reduced(i128::from(x) - a)).collect();
+    let (last, others) = even.split_last()?;
+    let moved: u64 = others.iter().map(|x| x % 2).sum();
+    let halves: Vec<u64> = others.iter().copied().chain([(last + moved) % modulus]).map(|x| x / 2).collect();
+    assert_eq!(value(&halves, modulus / 2), value(shares, modulus) / 2);
+    Some(halves)
+}
+
+fn shift_by(shares: &[u64], modulus: u64, t: u32, tape: &mut Tape) -> Option<Vec<u64>> {
+    (0..t).try_fold(shares.to_vec(), |shares, done| halving(&shares, modulus >> done, tape))
+}
+
+/// All shifts first, by 0 to width - 1; then each share's parities are read off as the bits of a word, the highest first.
+fn bits_of_sum(shares: &[u64], width: u32, tape: &mut Tape) -> Option<Vec<u64>> {
+    let mut shifts = vec![shares.to_vec()];
+    for left in (2..=width).rev() {
+        shifts.push(halving(shifts.last()?, 1 << left, tape)?);
+    }
+    let word = |share: usize| shifts.iter().rev().fold(0, |word, shares| 2 * word + shares[share] % 2);
+    let words: Vec<u64> = (0..shares.len()).map(word).collect();
+    assert_eq!(words.iter().fold(0, |x, word| x ^ word), value(shares, 1 << width));
+    Some(words)
+}
+
 pub fn refresh(shares: &[u32], tape: &[u32], modulus: u32, room: usize) -> Answer {
     let limit = (modulus >= 2).then_some(u64::from(modulus));
     let steps = |tape: &mut Tape| refresh_sum(&wide(shares), u64::from(modulus), tape);
@@ -99,5 +147,21 @@ pub fn refresh(shares: &[u32], tape: &[u32], modulus: u32, room: usize) -> Answe
 pub fn refresh_boolean(shares: &[u32], tape: &[u32], width: u32, room: usize) -> Answer {
     let limit = (1..=31).contains(&width).then(|| 1 << width);
     let steps = |tape: &mut Tape| refresh_xor(&wide(shares), width, tape);
+    answer(refusal(shares, room, limit), tape, steps)
+}
+
+pub fn shift(shares: &[u32], tape: &[u32], modulus: u32, t: u32, room: usize) -> Answer {
+    let in_range = (1..=31).contains(&t) && modulus.trailing_zeros() >= t && modulus >> t >= 2;
+    let limit = in_range.then_some(u64::from(modulus));
+    let steps = |tape: &mut Tape| {
+        let modulus = u64::from(modulus);
+        refresh_sum(&shift_by(&wide(shares), modulus, t, tape)?, modulus >> t, tape)
+    };
+    answer(refusal(shares, room, limit), tape, steps)
+}
+
+pub fn to_boolean(shares: &[u32], tape: &[u32], width: u32, room: usize) -> Answer {
+    let limit = (1..=31).contains(&width).then(|| 1 << width);
+    let steps = |tape: &mut Tape| refresh_xor(&bits_of_sum(&wide(shares), width, tape)?, width, tape);
     answer(refusal(shares, room, limit), tape, steps)
 }

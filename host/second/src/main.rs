@@ -4,6 +4,7 @@
 mod inputs;
 mod library;
 
+use inputs::{Gadget, Input};
 use library::{Answer, Tape};
 
 struct Tally {
@@ -19,38 +20,58 @@ impl Tally {
     }
 }
 
-/// One call on a slice of ten words, all 7, of which the first `room` are lent.
-fn call(gadget: &inputs::Gadget, input: &inputs::Input, words: usize, tally: &mut Tally) -> usize {
-    let answer = gadget.call(&input.shares, &input.tape[..words], input.parameter, input.room);
-    let mut slice = vec![7; 10];
+/// The words of a slice that began as 7s and was lent to a call.
+fn slice_after(answer: &Answer, length: usize) -> Vec<u32> {
+    let mut slice = vec![7; length];
     if let Some(out) = &answer.out {
         slice[..out.len()].copy_from_slice(out);
     }
-    tally.note(&answer, &slice);
+    slice
+}
+
+fn call(gadget: &Gadget, input: &Input, words: usize, tally: &mut Tally) -> usize {
+    let answer = gadget.call(input, words);
+    tally.note(&answer, &slice_after(&answer, 10));
     answer.used
 }
 
-fn line(gadget: &inputs::Gadget, n: usize) {
+fn joined(words: &[u32]) -> String {
+    let words: Vec<String> = words.iter().map(u32::to_string).collect();
+    words.join(" ")
+}
+
+fn line(gadget: &Gadget, n: usize) {
     let mut tally = Tally { counts: [0; 6], sum: 0 };
     for round in 0..inputs::ROUNDS {
         let input = gadget.input(n, round);
         let used = call(gadget, &input, input.tape.len(), &mut tally);
         if used > 0 {
-            call(gadget, &input, used, &mut tally);
-            call(gadget, &input, used - 1, &mut tally);
+            for words in [used, used - 1, used / 2] {
+                call(gadget, &input, words, &mut tally);
+            }
         }
     }
-    let counts: Vec<String> = tally.counts.iter().map(u32::to_string).collect();
-    println!("{} {} {} {}", gadget.name, n, counts.join(" "), tally.sum);
+    println!("{} {} {} {}", gadget.name, n, joined(&tally.counts), tally.sum);
+}
+
+fn draw_line(words: &[u32]) {
+    let mut tape = Tape::new(words);
+    match tape.draw(library::Q) {
+        Some(number) => println!("draw {} {}", number, tape.used()),
+        None => println!("draw ended"),
+    }
+}
+
+fn hand_line(gadget: &Gadget, input: &Input) {
+    let answer = gadget.call(input, input.tape.len());
+    println!("{} {} {} {}", gadget.name, answer.number, answer.used, joined(&slice_after(&answer, input.room)));
 }
 
 fn main() {
-    for words in [[8380417, 8380416], [8388608, 0]] {
-        let mut tape = Tape::new(&words);
-        match tape.draw(library::Q) {
-            Some(number) => println!("draw {} {}", number, tape.used()),
-            None => println!("draw ended"),
-        }
+    draw_line(&[8380417, 8380416]);
+    draw_line(&[8388608, 0]);
+    for (gadget, input) in &inputs::by_hand() {
+        hand_line(gadget, input);
     }
     for gadget in &inputs::GADGETS {
         for n in 0..=10 {

@@ -4,16 +4,13 @@ use Rattle.cases.proofs.main.Statement.{statement}
 use Rattle.cases.proofs.main.Tie as tie
 
 abbrev Inv-loop : tie.InvT-loop
-Inv-loop gadget₀ gadget = gadget ≤ 3
+Inv-loop gadget₀ gadget = gadget ≤ 5
 
 abbrev μ-loop : tie.MeasureT-loop
-μ-loop gadget₀ gadget = 3 - gadget
+μ-loop gadget₀ gadget = 5 - gadget
 
-draw-below-q-requires : tie.Need-draw-below-q-requires Inv-loop μ-loop
-draw-below-q-requires c κs = search needs
-
-draw-below-q-requires-2 : tie.Need-draw-below-q-requires-2 Inv-loop μ-loop
-draw-below-q-requires-2 c κs = search needs
+by-hand-requires : tie.Need-by-hand-requires Inv-loop μ-loop
+by-hand-requires c κs = search needs
 
 loop-holds : tie.Need-loop-holds Inv-loop μ-loop
 loop-holds c = search needs
@@ -39,8 +36,7 @@ main-spec =
     (tie.spec
     Inv-loop
     μ-loop
-    draw-below-q-requires
-    draw-below-q-requires-2
+    by-hand-requires
     loop-holds
     lines-requires
     add-gadget

@@ -10,8 +10,8 @@ use Rattle.gate.proofs.CheckLaws.{Passed, all-passed, inside-out, checked}
 use Rattle.gate.proofs.GadgetLaws.{silent-refused, silent-ran, on-copy, held}
 use Rattle.shares.specs.Sharing.{arithmetic}
 use Rattle.gadgets.specs.Refresh.{refreshGadget}
-use Rattle.gadgets.proofs.refresh.Statement.{statement}
-use Rattle.gadgets.proofs.refresh.Tie as tie
+use Rattle.gadgets.proofs.refreshes.refresh.Statement.{statement}
+use Rattle.gadgets.proofs.refreshes.refresh.Tie as tie
 
 inside-requires : tie.Need-inside-requires
 inside-requires c κs = search needs

@@ -12,8 +12,8 @@ use lib.Pow.{pow-mono}
 use Rattle.shares.specs.Refresh.{refresh}
 use Rattle.shares.specs.Sharing.{boolean}
 use Rattle.gadgets.specs.Refresh.{booleanGadget}
-use Rattle.gadgets.proofs.refresh_boolean.Statement.{statement}
-use Rattle.gadgets.proofs.refresh_boolean.Tie as tie
+use Rattle.gadgets.proofs.refreshes.refresh_boolean.Statement.{statement}
+use Rattle.gadgets.proofs.refreshes.refresh_boolean.Tie as tie
 
 inside-requires : tie.Need-inside-requires
 inside-requires c κs = search needs

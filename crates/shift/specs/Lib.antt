@@ -1,0 +1,4 @@
+pub mod Halving
+pub mod Moves
+pub mod Shift
+pub mod ToBoolean

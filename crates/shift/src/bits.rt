@@ -1,0 +1,49 @@
+// Arithmetic shares mod 2^k to Boolean shares of width k.
+use super::halving::halve;
+use shares::Shared;
+use tape::Cursor;
+use words::power;
+ghost use mathlib.Core.Path.{_≡_};
+ghost use Prim.Native.Nat.{_^_, _≤_};
+ghost use lib.ListN.{take};
+ghost use Rattle.numbers.specs.Lists.{Words};
+ghost use Rattle.draws.specs.Draws.{run};
+ghost use Rattle.shares.specs.Arrays.{Held, Gave};
+ghost use Rattle.shift.specs.ToBoolean.{withBit, toBoolean};
+
+// Bit b of each word, from the parities of the arithmetic shares.
+fn with_bit(words: [u32; 8], shares: [u32; 8], b: u32) -> [u32; 8]
+    requires { ⌜ (b ≤ 30) × Words 8 (2 ^ b) words ⌝ }
+    ensures { λ r. ⌜ r ≡ withBit b shares words ⌝ }
+{
+    let place = power(b);
+    let mut out = words;
+    for i in 0..8 {
+        out[i] = out[i] + place * (shares[i] % 2);
+    }
+    out
+}
+
+pub fn to_boolean(shares: [u32; 8], n: usize, k: u32, cursor: Cursor, tape: &[u32]) -> Shared
+    requires { ⌜ (1 ≤ k) × (k ≤ 31) × Held 8 n (2 ^ k) shares ⌝ }
+    ensures { λ r. ⌜ Gave n (2 ^ k) r (run (toBoolean k (take n shares)) (now (tape .entry)) cursor) ⌝ }
+{
+    let mut words = [0u32; 8];
+    let mut left = shares;
+    let mut cur = cursor;
+    for b in 0..k - 1 {
+        let more = with_bit(words, left, b);
+        let s = halve(left, n, power(k - 1 - b), cur, tape);
+        if !s.ok {
+            return Shared::ended();
+        }
+        words = more;
+        left = s.words;
+        cur = s.cursor;
+    }
+    Shared {
+        words: with_bit(words, left, k - 1),
+        cursor: cur,
+        ok: true,
+    }
+}
