@@ -1,5 +1,5 @@
 -- The shift and arithmetic to Boolean meet the three demands, their answers are unique, and how many draws they make.
-use mathlib.Core.Path.{_≡_, refl, sym, subst, _∙_}
+use mathlib.Core.Path.{_≡_, refl, subst, _∙_}
 use mathlib.Core.List.{List}
 use Prim.Native.Nat.{ℕ, _+_, _-_, _*_, _/_, _%_, _^_}
 use native.Mathlib.Nat.{div-le-self}
@@ -8,7 +8,7 @@ use lib.ListN.{length, length-append, length-replicate}
 use lib.Pow.{pow-pos, pow-mono}
 use Rattle.numbers.specs.Lists.{sum}
 use Rattle.draws.proofs.PlanLaws.{gives-map}
-use Rattle.shares.specs.Sharing.{arithmetic, value}
+use Rattle.shares.specs.Sharing.{arithmetic}
 use Rattle.shares.specs.Refresh.{refreshPlan}
 use Rattle.shares.proofs.SharingLaws.{Shares}
 use Rattle.shift.specs.Shift.{shiftPlan}

@@ -1,5 +1,5 @@
 -- Laws of sums of words.
-use mathlib.Core.Path.{_≡_, refl, sym, _∙_}
+use mathlib.Core.Path.{_≡_, refl}
 use mathlib.Core.List.{List, [], _∷_}
 use Prim.Native.Nat.{ℕ, zero, suc, _+_, _*_, _/_, _%_, _<_}
 use native.Mathlib.Omega.{arith}
@@ -7,7 +7,7 @@ use native.Mathlib.Nat.{le-of-suc-le-suc}
 use lib.ListN.{length, getD, take, replicate}
 use Rattle.numbers.specs.Modulo.{subMod, negMod}
 use Rattle.numbers.specs.Lists.{fold, sum, along}
-use Rattle.numbers.proofs.Cong.{Cong, cong-eq, cong-refl, cong-add, _⨾_, via}
+use Rattle.numbers.proofs.Cong.{Cong, cong-eq, cong-refl, cong-add, via}
 use Rattle.numbers.proofs.GroupLaws.{sub-back}
 
 pub sum-zeros : (k : ℕ) → sum (replicate k 0) ≡ 0

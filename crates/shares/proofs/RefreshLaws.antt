@@ -1,14 +1,11 @@
 -- The refresh keeps the value, its words stay below the bound, and it makes n - 1 draws: over any n, M and k.
-use mathlib.Core.Path.{_≡_, refl, sym, subst, _∙_}
+use mathlib.Core.Path.{_≡_, refl, sym, subst}
 use mathlib.Core.List.{List}
 use Prim.Native.Nat.{ℕ, zero, suc, _+_, _-_, _≤_, _<_}
 use native.Mathlib.Nat.{sub-zero}
 use native.Mathlib.Omega.{arith}
-use lib.ListN.{length, getD, replicate}
-use Rattle.numbers.specs.Lists.{Words, fold, change}
-use Rattle.numbers.proofs.GroupLaws.{Group, add-cancel}
-use Rattle.numbers.proofs.WordsLaws.{words-at, words-change}
-use Rattle.numbers.proofs.FoldLaws.{fold-below, fold-add, fold-sub}
+use lib.ListN.{length, replicate}
+use Rattle.numbers.specs.Lists.{Words}
 use Rattle.draws.specs.Draws.{bind, turns, each}
 use Rattle.draws.proofs.Outcomes.{Gives}
 use Rattle.draws.proofs.PlanLaws.{gives-done, gives-draw, gives-as}

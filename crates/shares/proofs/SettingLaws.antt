@@ -1,7 +1,6 @@
 -- Exactly one list of draws leads a refresh from any shares to any others, but for one share: over any n, M and k.
 -- The argument: the shares that are aimed at, and the value, fix the share that is left out; and each draw is what its share is to change by.
 use mathlib.Core.Path.{_≡_, refl, sym, ap, subst, _∙_}
-use mathlib.Core.Logic.{_≢_}
 use mathlib.Core.Bool.{true}
 use mathlib.Core.List.{List, [], _∷_}
 use Prim.Native.Nat.{ℕ, zero, suc, _+_, _-_, _≤_, _<_}
@@ -10,9 +9,9 @@ use native.Mathlib.Omega.{arith}
 use native.Mathlib.Decide.{ℕ-discrete}
 use lib.ListN.{length, getD, set, replicate, length-set, length-replicate}
 use lib.Seq.{getD-set-same, getD-set-other, ext-getD, set-getD}
-use Rattle.numbers.specs.Lists.{Words, fold, change}
+use Rattle.numbers.specs.Lists.{Words, fold}
 use Rattle.numbers.proofs.GroupLaws.{Group, add-cancel, add-solves, add-only}
-use Rattle.numbers.proofs.WordsLaws.{words-at, words-set, words-table, table, table-at, length-change, change-here, change-other}
+use Rattle.numbers.proofs.WordsLaws.{words-at, words-set, words-table, table, table-at}
 use Rattle.numbers.proofs.FoldLaws.{fold-below, fold-at}
 use Rattle.draws.specs.Draws.{bind, turns}
 use Rattle.draws.specs.Anew.{ExactlyOne}

@@ -6,7 +6,6 @@ use native.Mathlib.Omega.{arith}
 use lib.ListN.{length, getD, set, take, length-set}
 use lib.Seq.{length-take-le, set-getD, set-set, set-comm, getD-set-same, getD-set-other}
 use Rattle.numbers.specs.Lists.{Words, change}
-use Rattle.numbers.proofs.WordsLaws.{take-change}
 use Rattle.tape.specs.declared.Cursor.{Cursor}
 use Rattle.tape.specs.declared.Draw.{Draw}
 use Rattle.tape.specs.declared.Draw.the-variants.{Got, Ended}

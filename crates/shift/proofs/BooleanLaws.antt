@@ -4,11 +4,11 @@ use mathlib.Core.List.{List, [], _∷_}
 use Prim.Native.Nat.{ℕ, zero, suc, _+_, _-_, _*_, _/_, _%_, _^_, _≤_, _<_}
 use native.Mathlib.Nat.{pow-suc, mod-lt}
 use native.Mathlib.Omega.{arith}
-use lib.ListN.{length, getD, replicate}
+use lib.ListN.{length, replicate}
 use lib.Pow.{pow-pos}
 use Rattle.numbers.specs.Modulo.{xor}
 use Rattle.numbers.specs.Lists.{Words, fold, sum, xorAll, along}
-use Rattle.numbers.proofs.XorLaws.{xor-self, xor-zero, xor-bit, xor-parts}
+use Rattle.numbers.proofs.XorLaws.{xor-self, xor-bit, xor-parts}
 use Rattle.numbers.proofs.GroupLaws.{xors}
 use Rattle.numbers.proofs.WordsLaws.{words-head, words-tail, words-same}
 use Rattle.numbers.proofs.FoldLaws.{fold-below}

@@ -1,7 +1,6 @@
 -- What the shares recombine to: the shared parity to the parity, after the moves every share is even, a halving to floor(x/2), the shift by t to floor(x/2^t).
 -- Over any n, m and t, whatever the draws.
-use mathlib.Core.Path.{_≡_, refl, sym, ap, subst, _∙_}
-use mathlib.Core.Logic.{_⊎_, inl, inr}
+use mathlib.Core.Path.{_≡_, sym, ap, subst, _∙_}
 use mathlib.Core.List.{List, _∷_}
 use Prim.Native.Nat.{ℕ, zero, suc, _+_, _-_, _*_, _/_, _%_, _^_, _≤_, _<_}
 use native.Mathlib.Nat.{div-add-mod', mod-lt, mod-eq-of-lt, div-one, div-div-eq-div-mul, pow-suc, one-mul, mul-pos}
@@ -11,11 +10,10 @@ use lib.ListN.{length, getD, take, replicate, length-replicate, length-append}
 use lib.Seq.{take-all}
 use lib.Dec.{eqb}
 use lib.Pow.{pow-pos}
-use borrow.Author.Tests.{eq-eqb, ne-eqb}
 use Rattle.numbers.specs.Tests.{pick}
-use Rattle.numbers.specs.Modulo.{addMod, negMod}
+use Rattle.numbers.specs.Modulo.{addMod}
 use Rattle.numbers.specs.Lists.{Words, fold, sum, along}
-use Rattle.numbers.proofs.Cong.{Cong, cong-by, cong-eq, cong-refl, cong-sym, cong-mod, cong-add, cong-cancel, cong-small, via, _⨾_}
+use Rattle.numbers.proofs.Cong.{Cong, cong-by, cong-eq, cong-refl, cong-sym, cong-mod, cong-add, cong-cancel, via, _⨾_}
 use Rattle.numbers.proofs.GroupLaws.{sums}
 use Rattle.numbers.proofs.WordsLaws.{words-cons, words-same}
 use Rattle.numbers.proofs.FoldLaws.{fold-sum, fold-add}
@@ -28,8 +26,9 @@ use Rattle.shares.specs.Refresh.{refreshPlan}
 use Rattle.shares.proofs.SharingLaws.{Shares}
 use Rattle.shares.proofs.RefreshLaws.{refresh-keeps}
 use Rattle.shift.specs.Halving.{parity, negated, join, joinTurn, sharedParity, less, evened, halves, halving, halvingPlan}
+use Rattle.shift.specs.AtOnce.{signed}
 use Rattle.shift.specs.Shift.{shift, shiftPlan}
-use Rattle.shift.proofs.ParityLaws.{signed-is, signed-words, join-is, join-words}
+use Rattle.shift.proofs.ParityLaws.{signed-is, signed-words, join-signed, join-words}
 use Rattle.shift.proofs.MoveLaws.{evened-keeps, evened-even}
 use Rattle.shift.proofs.HalvingLaws.{less-words, halves-words}
 
@@ -48,14 +47,14 @@ module _ {n M : ℕ} (two : 2 ≤ M) where
   pub join-keeps : (p c : ℕ) (ps : List ℕ) → p < 2 → c < 2 → 0 < n → Shares (arithmetic M) n c ps → Shares (arithmetic M) n ((c + p) % 2) (join M p ps)
   unfolding addMod
   join-keeps p c ps hp hc h a =
-      let signed : List ℕ = along (λ i x. pick (eqb p 1) (negMod M x) x) ps in
+      let turned : List ℕ = along (λ i x. signed M p x) ps in
       let w = signed-words M p (omega arith) (a .words) in
       record {
         words = join-words M p two hp (a .words);
         is =
-            sym (fold-sum M (omega arith) (join M p ps)) ∙ ap (fold (addMod M)) (join-is M p ps)
-            ∙ fold-add (sums M (omega arith)) 0 p signed (omega arith) w (omega (arith, w .size))
-            ∙ last (fold (addMod M) signed) (sum (pick (eqb p 1) (negated M ps) ps)) (fold-sum M (omega arith) signed ∙ ap (λ (l : List ℕ). sum l % M) (signed-is M p ps))
+            sym (fold-sum M (omega arith) (join M p ps)) ∙ ap (fold (addMod M)) (join-signed M p ps)
+            ∙ fold-add (sums M (omega arith)) 0 p turned (omega arith) w (omega (arith, w .size))
+            ∙ last (fold (addMod M) turned) (sum (pick (eqb p 1) (negated M ps) ps)) (fold-sum M (omega arith) turned ∙ ap (λ (l : List ℕ). sum l % M) (signed-is M p ps))
             (signed-sum two p c ps hp hc (a .is));
       }
     where

@@ -1,14 +1,13 @@
 -- Laws of one halving in an array: its steps on the first n words, and its run.
-use mathlib.Core.Path.{_≡_, refl, sym, ap, ap₂, _∙_}
+use mathlib.Core.Path.{_≡_, refl, sym, ap, _∙_}
 use mathlib.Core.List.{List}
-use Prim.Native.Nat.{ℕ, _*_, _/_, _<_}
+use Prim.Native.Nat.{ℕ, _*_, _<_}
 use native.Mathlib.Omega.{arith}
-use lib.ListN.{length, getD, take}
+use lib.ListN.{getD, take}
 use lib.Seq.{getD-take}
 use Rattle.numbers.specs.Modulo.{subMod}
-use Rattle.numbers.specs.Lists.{Words, along}
+use Rattle.numbers.specs.Lists.{Words}
 use Rattle.numbers.proofs.GroupLaws.{sums}
-use Rattle.numbers.proofs.WordsLaws.{words-at}
 use Rattle.numbers.proofs.AlongLaws.{take-along, words-along}
 use Rattle.tape.specs.declared.Cursor.{Cursor}
 use Rattle.tape.specs.Tape.{ended, ran}

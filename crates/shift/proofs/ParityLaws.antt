@@ -2,18 +2,19 @@
 use mathlib.Core.Path.{_≡_, refl, sym, ap, _∙_}
 use mathlib.Core.Bool.{Bool, true, false}
 use mathlib.Core.List.{List, _∷_}
-use Prim.Native.Nat.{ℕ, zero, suc, _+_, _-_, _%_, _≤_, _<_}
+use Prim.Native.Nat.{ℕ, zero, suc, _+_, _-_, _≤_, _<_}
 use native.Mathlib.Nat.{not-suc-le-zero}
 use native.Mathlib.Omega.{arith}
 use lib.ListN.{length, getD, set, take, replicate}
 use lib.Seq.{length-take-le, getD-take}
 use lib.Dec.{eqb}
+use borrow.Author.Tests.{ne-eqb}
 use Rattle.numbers.specs.Tests.{pick}
 use Rattle.numbers.specs.Modulo.{addMod, negMod}
 use Rattle.numbers.specs.Lists.{Words, change, along}
 use Rattle.numbers.proofs.GroupLaws.{sums}
-use Rattle.numbers.proofs.WordsLaws.{words-at, words-same, words-change, take-change}
-use Rattle.numbers.proofs.AlongLaws.{along-is, take-along, words-along}
+use Rattle.numbers.proofs.WordsLaws.{words-at, words-same, words-change, length-change, change-here, change-other}
+use Rattle.numbers.proofs.AlongLaws.{length-along, along-at, along-is, take-along, words-along}
 use Rattle.tape.specs.declared.Cursor.{Cursor}
 use Rattle.tape.specs.Tape.{Ran, ended, ran}
 use Rattle.draws.specs.Draws.{each, run}
@@ -23,11 +24,12 @@ use Rattle.shares.specs.Refresh.{refresh}
 use Rattle.shares.specs.Arrays.{Held}
 use Rattle.shares.proofs.ArraysLaws.{held-of, held-set}
 use Rattle.shift.specs.Halving.{parity, negated, join, joinTurn, sharedParity}
+use Rattle.shift.specs.AtOnce.{signed, joined}
 
 -- ---- a parity joins
 module _ (M p : ℕ) where
   -- the sign word by word
-  pub signed-is : (xs : List ℕ) → along (λ i x. pick (eqb p 1) (negMod M x) x) xs ≡ pick (eqb p 1) (negated M xs) xs
+  pub signed-is : (xs : List ℕ) → along (λ i x. signed M p x) xs ≡ pick (eqb p 1) (negated M xs) xs
   unfolding negated
   signed-is xs = go (eqb p 1)
     where
@@ -35,27 +37,41 @@ module _ (M p : ℕ) where
       go true = refl
       go false = sym (along-is (λ i x. x) xs xs refl (λ j h. refl))
 
-  pub signed-words : {n : ℕ} {xs : List ℕ} → 0 < M → Words n M xs → Words n M (along (λ i x. pick (eqb p 1) (negMod M x) x) xs)
+  pub signed-below : {x : ℕ} → 0 < M → x < M → signed M p x < M
   unfolding negMod
-  signed-words h w = words-along _ w (λ i x l k. go (eqb p 1) x k)
+  signed-below {x} h l = go (eqb p 1)
     where
-      go : (b : Bool) (x : ℕ) → x < M → pick b (negMod M x) x < M
-      go true x k = sums M h .sub-below 0 x h k
-      go false x k = k
+      go : (b : Bool) → pick b (negMod M x) x < M
+      go true = sums M h .sub-below 0 x h l
+      go false = l
 
-  pub join-is : (xs : List ℕ) → join M p xs ≡ change (λ a. addMod M a p) 0 (along (λ i x. pick (eqb p 1) (negMod M x) x) xs)
+  pub signed-words : {n : ℕ} {xs : List ℕ} → 0 < M → Words n M xs → Words n M (along (λ i x. signed M p x) xs)
+  signed-words h w = words-along _ w (λ i x l k. signed-below h k)
+
+  -- the sign, and p added to the first word
+  pub join-signed : (xs : List ℕ) → join M p xs ≡ change (λ a. addMod M a p) 0 (along (λ i x. signed M p x) xs)
   unfolding join
-  join-is xs = ap (change (λ a. addMod M a p) 0) (sym (signed-is xs))
+  join-signed xs = ap (change (λ a. addMod M a p) 0) (sym (signed-is xs))
+
+  -- and both at once
+  pub join-is : (xs : List ℕ) → join M p xs ≡ along (joined M p) xs
+  join-is xs =
+      join-signed xs ∙ along-is (joined M p) xs _ (length-change _ 0 (along (λ i x. signed M p x) xs) ∙ length-along _ xs) at
+    where
+      at : (j : ℕ) → j < length xs → getD (change (λ a. addMod M a p) 0 (along (λ i x. signed M p x) xs)) j 0 ≡ joined M p j (getD xs j 0)
+      at zero l =
+          change-here (λ a. addMod M a p) 0 (along (λ i x. signed M p x) xs) (omega (arith, length-along (λ i x. signed M p x) xs))
+          ∙ ap (λ a. addMod M a p) (along-at (λ i x. signed M p x) xs 0 l)
+      at (suc j) l =
+          rw (ne-eqb (suc j) 0 (omega arith)) (change-other (λ a. addMod M a p) 0 (along (λ i x. signed M p x) xs) (suc j) (omega arith) ∙ along-at (λ i x. signed M p x) xs (suc j) l)
 
   pub join-words : {n : ℕ} {xs : List ℕ} → 2 ≤ M → p < 2 → Words n M xs → Words n M (join M p xs)
   join-words {xs = xs} two h w =
       let u = signed-words (omega arith) w in
-      rw (join-is xs) (words-change (λ a. addMod M a p) 0 u (sums M (omega arith) .add-below _ p (words-at (omega arith) u 0) (omega arith)))
+      rw (join-signed xs) (words-change (λ a. addMod M a p) 0 u (sums M (omega arith) .add-below _ p (words-at (omega arith) u 0) (omega arith)))
 
-  pub join-take : (n : ℕ) (xs : List ℕ) → 0 < n → take n (join M p xs) ≡ join M p (take n xs)
-  join-take n xs h =
-      ap (take n) (join-is xs) ∙ take-change (λ a. addMod M a p) n 0 _ h ∙ ap (change (λ a. addMod M a p) 0) (take-along _ _ n xs (λ i x l. refl))
-      ∙ sym (join-is (take n xs))
+  pub join-take : (n : ℕ) (xs : List ℕ) → take n (join M p xs) ≡ join M p (take n xs)
+  join-take n xs = ap (take n) (join-is xs) ∙ take-along _ _ n xs (λ i x l. refl) ∙ sym (join-is (take n xs))
 
 -- ---- the loop: what is left to join gives the same as the whole
 pub record Joining (size n M : ℕ) (xs tape : List ℕ) (x : Ran (List ℕ)) (i : ℕ) (words : List ℕ) (p : Cursor) : Type 0 where
@@ -108,6 +124,6 @@ module _ {size n M : ℕ} {xs tape : List ℕ} {x : Ran (List ℕ)} {i : ℕ} {w
               sym (each-more (joinTurn M (take n xs)) i n (take n words) tape p h (take n others) c
               (bind-ran (refresh (arithmetic M) (take n words)) _ tape p (take n fresh) c e ∙ run-done _ tape c
               ∙ ap (λ (l : List ℕ). ran l c) (ap (λ (y : ℕ). join M (parity y) (take n fresh)) (getD-take n xs i 0 h)
-              ∙ sym (ap (take n) f ∙ join-take M (parity (getD xs i 0)) n fresh (omega (arith, a .held .least))))))
+              ∙ sym (ap (take n) f ∙ join-take M (parity (getD xs i 0)) n fresh))))
               ∙ a .same;
         }

@@ -1,4 +1,4 @@
 pub mod Halving
-pub mod Moves
+pub mod AtOnce
 pub mod Shift
 pub mod ToBoolean

@@ -11,7 +11,7 @@ ghost use Rattle.numbers.specs.Lists.{Words};
 ghost use Rattle.draws.specs.Draws.{run};
 ghost use Rattle.shares.specs.Arrays.{Held, Gave};
 ghost use Rattle.shift.specs.Halving.{less, evened, halves, halving};
-ghost use Rattle.shift.specs.Moves.{gathered, settled};
+ghost use Rattle.shift.specs.AtOnce.{gathered, settled};
 
 fn subtract(shares: [u32; 8], a: [u32; 8], m: u32) -> [u32; 8]
     requires { ⌜ Words 8 m shares × Words 8 m a ⌝ }

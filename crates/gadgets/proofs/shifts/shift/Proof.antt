@@ -1,15 +1,13 @@
 use borrow.Author.Needs.{needs}
-use mathlib.Core.Path.{_≡_, refl, sym, subst, _∙_}
+use mathlib.Core.Path.{_≡_, refl, sym, _∙_}
 use native.Mathlib.Omega.{arith}
 use lib.ListN.{length}
 use denote.Ref.{now}
-use Rattle.gate.specs.Checks.{inside, firstFailing, checks}
-use Prim.Native.Nat.{ℕ, _*_, _/_, _^_, _≤_}
+use Rattle.gate.specs.Checks.{firstFailing, checks}
 use lib.Pow.{pow-pos}
 use Rattle.gate.proofs.CheckLaws.{Passed, all-passed, checked}
 use Rattle.gate.proofs.GadgetLaws.{silent-refused, silent-ran, closed-on-copy, held, held-given}
 use Rattle.shares.specs.Sharing.{arithmetic}
-use Rattle.shares.specs.Arrays.{Held}
 use Rattle.shift.specs.Shift.{shift}
 use Rattle.gadgets.specs.Shift.{shiftRange, shiftGadget}
 use Rattle.gadgets.proofs.RangeLaws.{shift-range-out, whole-power, whole-least}

@@ -1,12 +1,10 @@
 use borrow.Author.Needs.{needs}
 use mathlib.Core.Path.{_≡_, sym, _∙_}
 use mathlib.Core.Bool.{true, false}
-use native.Mathlib.Omega.{arith}
 use lib.Pow.{pow-pos}
-use borrow.Author.Tests.{le-leb, lt-leb, eq-eqb, ne-eqb, not-true, not-false}
+use borrow.Author.Tests.{eq-eqb, ne-eqb, not-true, not-false}
 use Rattle.gate.specs.Checks.{inside}
 use Rattle.gate.proofs.CheckLaws.{inside-out}
-use Rattle.gadgets.specs.Shift.{shiftRange}
 use Rattle.gadgets.proofs.RangeLaws.{shift-range-word}
 use Prim.Native.Nat.{_≤_}
 use Rattle.gadgets.proofs.shifts.shift_range.Statement.{statement}

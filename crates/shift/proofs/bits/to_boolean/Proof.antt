@@ -1,11 +1,9 @@
 use borrow.Author.Needs.{needs}
-use mathlib.Core.Path.{_≡_, refl, ap, sym, subst, _∙_}
-use Prim.Native.Nat.{ℕ, _-_, _*_, _^_, _≤_}
+use mathlib.Core.Path.{refl}
+use Prim.Native.Nat.{_-_}
 use native.Mathlib.Omega.{arith}
 use lib.ListN.{take}
-use lib.Pow.{pow-mono}
 use Rattle.draws.specs.Draws.{run}
-use Rattle.shares.specs.Arrays.{Held, Gave}
 use Rattle.shares.proofs.ArraysLaws.{stopped, whole, cut-off}
 use Rattle.shift.specs.ToBoolean.{toBoolean}
 use Rattle.shift.proofs.BitLaws.{Building, building-start, building-done, building-words, building-bits, building-held, building-small, building-ended, building-more}

@@ -1,12 +1,11 @@
 use borrow.Author.Needs.{needs}
-use mathlib.Core.Path.{_≡_, refl, sym, ap, _∙_}
+use mathlib.Core.Path.{refl}
 use native.Mathlib.Omega.{arith}
-use Prim.Native.Nat.{ℕ, _+_, _-_, _*_, _/_, _%_, _^_, _≤_, _<_}
-use lib.ListN.{length, getD, take}
+use Prim.Native.Nat.{_+_, _-_, _*_, _%_, _^_, _<_}
+use lib.ListN.{getD}
 use Rattle.shift.specs.ToBoolean.{withBit}
-use Rattle.shift.specs.Halving.{parity, negated, join, less, halves}
+use Rattle.shift.specs.Halving.{parity}
 use Rattle.numbers.proofs.AlongLaws.{Along, along-start, along-read, along-more, along-all}
-use Rattle.numbers.proofs.WordsLaws.{words-at}
 use Rattle.shift.proofs.BitLaws.{bit-fits}
 use Rattle.shift.proofs.bits.with_bit.Statement.{statement}
 use Rattle.shift.proofs.bits.with_bit.Tie as tie

@@ -1,16 +1,12 @@
 use borrow.Author.Needs.{needs}
-use Prim.Native.Nat.{_-_}
-use mathlib.Core.Path.{refl}
+use Prim.Native.Nat.{_-_, ℕ, _*_, _^_, _<_}
+use mathlib.Core.Path.{refl, ap}
 use native.Mathlib.Omega.{arith}
 use lib.ListN.{take}
 use Rattle.draws.specs.Draws.{run}
 use Rattle.shares.proofs.ArraysLaws.{stopped, whole, cut-off}
 use Rattle.shift.specs.Shift.{shift}
 use Rattle.shift.proofs.ShiftLaws.{Shifting, shifting-start, shifting-done, shifting-words, shifting-held, shifting-ended, shifting-more}
-use Rattle.shares.specs.Arrays.{Held}
-use mathlib.Core.Path.{ap, sym, subst}
-use Prim.Native.Nat.{ℕ, _*_}
-use Prim.Native.Nat.{_^_, _<_}
 use Rattle.shift.proofs.by.shift_by.Statement.{statement}
 use Rattle.shift.proofs.by.shift_by.Tie as tie
 

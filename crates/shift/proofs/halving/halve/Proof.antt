@@ -1,7 +1,7 @@
 use borrow.Author.Needs.{needs}
 use mathlib.Core.Path.{refl}
 use native.Mathlib.Omega.{arith}
-use Prim.Native.Nat.{_*_, _<_}
+use Prim.Native.Nat.{_*_}
 use borrow.Author.Tests.{not-false}
 use Rattle.numbers.specs.Lists.{Words}
 use Rattle.shares.proofs.ArraysLaws.{held-of, gave, stopped, whole, cut-off}

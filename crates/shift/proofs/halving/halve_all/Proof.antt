@@ -1,8 +1,8 @@
 use borrow.Author.Needs.{needs}
-use mathlib.Core.Path.{_≡_, refl, sym, ap, _∙_}
-use Prim.Native.Nat.{ℕ, _+_, _-_, _*_, _/_, _%_, _^_, _≤_, _<_}
-use Rattle.shift.specs.Halving.{parity, negated, join, less, halves}
-use Rattle.numbers.proofs.AlongLaws.{Along, along-start, along-read, along-more, along-all}
+use mathlib.Core.Path.{refl}
+use Prim.Native.Nat.{_-_, _/_}
+use Rattle.shift.specs.Halving.{halves}
+use Rattle.numbers.proofs.AlongLaws.{Along, along-start, along-more, along-all}
 use Rattle.shift.proofs.halving.halve_all.Statement.{statement}
 use Rattle.shift.proofs.halving.halve_all.Tie as tie
 

@@ -1,7 +1,7 @@
 use borrow.Author.Needs.{needs}
 use Prim.Native.Nat.{_-_}
 use Rattle.numbers.proofs.AlongLaws.{Along, along-start, along-more, along-all}
-use Rattle.shift.specs.Moves.{settled}
+use Rattle.shift.specs.AtOnce.{settled}
 use Rattle.shift.proofs.MoveLaws.{settled-words, settled-take}
 use Rattle.shift.proofs.halving.move_parities.Statement.{statement}
 use Rattle.shift.proofs.halving.move_parities.Tie as tie

@@ -1,11 +1,9 @@
 use borrow.Author.Needs.{needs}
-use native.Mathlib.Omega.{arith}
-use Prim.Native.Nat.{ℕ, _+_, _-_, _*_, _/_, _%_, _^_, _≤_, _<_}
-use lib.ListN.{length, getD, take}
-use Rattle.numbers.specs.Modulo.{addMod, subMod, negMod}
-use Rattle.shift.specs.Halving.{parity, negated, join, less, halves}
+use Prim.Native.Nat.{_-_}
+use lib.ListN.{getD}
+use Rattle.numbers.specs.Modulo.{subMod}
+use Rattle.shift.specs.Halving.{less}
 use Rattle.numbers.proofs.AlongLaws.{Along, along-start, along-read, along-more, along-all}
-use Rattle.numbers.proofs.WordsLaws.{words-at}
 use Rattle.shift.proofs.halving.subtract.Statement.{statement}
 use Rattle.shift.proofs.halving.subtract.Tie as tie
 

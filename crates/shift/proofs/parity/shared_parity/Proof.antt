@@ -17,11 +17,8 @@ Inv-loop n m tape shares words₀ cur₀ i₀ words cur i = Joining 8 n m shares
 abbrev μ-loop : tie.MeasureT-loop
 μ-loop n m tape shares words₀ cur₀ i₀ words cur i = n - i
 
-array-read-words : tie.Need-array-read-words Inv-loop μ-loop
-array-read-words c = search needs
-
-array-write-words : tie.Need-array-write-words Inv-loop μ-loop
-array-write-words c = search needs
+array-read-t14 : tie.Need-array-read-t14 Inv-loop μ-loop
+array-read-t14 c = search needs
 
 loop-holds : tie.Need-loop-holds Inv-loop μ-loop
 loop-holds c = joining-start _ _ _ _ _ _ (c .before .pre)
@@ -68,8 +65,7 @@ shared-parity-spec =
     (tie.spec
     Inv-loop
     μ-loop
-    array-read-words
-    array-write-words
+    array-read-t14
     loop-holds
     refresh-requires
     ended-requires
