@@ -8,7 +8,7 @@ use Rattle.tape.specs.Tape.{lowBits, drawFrom, drawAt}
 use Rattle.draws.specs.Draws.{after, next, run, bind, turns, each}
 use Rattle.shares.specs.Sharing.{move}
 use Rattle.shares.specs.Refresh.{turn, refresh}
-use Rattle.shift.specs.Halving.{negated, join, joinTurn, sharedParity, less, moveParity, evened, halves, halving}
+use Rattle.halving.specs.Halving.{negated, join, joinTurn, sharedParity, less, moveParity, evened, halves, halving}
 use Rattle.shift.specs.Shift.{shift}
 use Rattle.shift.specs.ToBoolean.{withBit, bitsFrom, toBoolean}
 use Rattle.gate.specs.Checks.{inside, allBelow, firstFailing, checks}

@@ -1,19 +1,23 @@
 -- The calls worked by hand, computed on the definitions.
 use mathlib.Core.Path.{refl}
 use lib.Count.{leadingZeros}
-use Rattle.numbers.specs.Modulo.{addMod, subMod, xor}
+use Rattle.numbers.specs.Modulo.{addMod, subMod, negMod, xor}
 use Rattle.numbers.specs.Bits.{bitsOf}
-use Rattle.numbers.specs.Lists.{change}
+use Rattle.numbers.specs.Lists.{change, along, over}
 use Rattle.tape.specs.Tape.{lowBits, drawFrom, drawAt}
 use Rattle.draws.specs.Draws.{after, next, run, bind, turns, each}
 use Rattle.shares.specs.Sharing.{move}
 use Rattle.shares.specs.Refresh.{turn, refresh}
+use Rattle.halving.specs.Halving.{negated, join, joinTurn, sharedParity, less, moveParity, evened, halves, halving}
+use Rattle.shift.specs.Shift.{shift}
+use Rattle.shift.specs.ToBoolean.{withBit, bitsFrom, toBoolean}
 use Rattle.gate.specs.Checks.{inside, allBelow, firstFailing, checks}
 use Rattle.gate.specs.Told.{refusal, ranTold}
 use Rattle.gate.specs.Gadget.{silentSteps, closed, checkNumber, tells}
+use Rattle.gadgets.specs.Shift.{shiftRange, shiftGadget, toBooleanGadget}
 use Rattle.gadgets.specs.Refresh.{refreshGadget, booleanGadget}
 use Rattle.demands.specs.Worked.{Worked}
 
 pub worked : Worked
-unfolding leadingZeros addMod subMod xor bitsOf change lowBits drawFrom drawAt after next run bind turns each move turn refresh inside allBelow firstFailing checks refusal ranTold silentSteps closed checkNumber tells refreshGadget booleanGadget
-worked = record { refreshed = refl; refreshed-boolean = refl; short = refl }
+unfolding leadingZeros addMod subMod negMod xor bitsOf change along over lowBits drawFrom drawAt after next run bind turns each move turn refresh negated join joinTurn sharedParity less moveParity evened halves halving shift withBit bitsFrom toBoolean inside allBelow firstFailing checks refusal ranTold silentSteps closed checkNumber tells shiftRange shiftGadget toBooleanGadget refreshGadget booleanGadget
+worked = record { refreshed = refl; refreshed-boolean = refl; shifted = refl; made-boolean = refl; short = refl }

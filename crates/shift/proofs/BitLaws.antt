@@ -20,9 +20,9 @@ use Rattle.draws.proofs.RunLaws.{run-done, bind-ran, bind-ended}
 use Rattle.shares.specs.declared.Shared.{Shared}
 use Rattle.shares.specs.Arrays.{Held, Gave}
 use Rattle.shares.proofs.ArraysLaws.{gave}
-use Rattle.shift.specs.Halving.{parity, halving}
+use Rattle.halving.specs.Halving.{parity, halving}
 use Rattle.shift.specs.ToBoolean.{withBit, bitsFrom, toBoolean}
-use Rattle.shift.proofs.ParityLaws.{take-zeros}
+use Rattle.halving.proofs.ParityLaws.{take-zeros}
 
 -- bit b put onto a word below 2^b
 pub bit-below : (b x y : ℕ) → x < 2 ^ b → x + 2 ^ b * parity y < 2 ^ suc b

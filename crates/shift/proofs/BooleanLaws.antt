@@ -16,11 +16,11 @@ use Rattle.draws.proofs.Outcomes.{Gives}
 use Rattle.draws.proofs.PlanLaws.{gives-bind, gives-done}
 use Rattle.shares.specs.Sharing.{arithmetic, boolean}
 use Rattle.shares.proofs.SharingLaws.{Shares}
-use Rattle.shift.specs.Halving.{parity}
+use Rattle.halving.specs.Halving.{parity}
 use Rattle.shift.specs.Shift.{shiftPlan}
 use Rattle.shift.specs.ToBoolean.{withBit, bitsFrom, toBoolean, toBooleanPlan}
 use Rattle.shift.proofs.BitLaws.{with-bit-words}
-use Rattle.shift.proofs.FloorLaws.{parity-of, halving-floor}
+use Rattle.halving.proofs.FloorLaws.{parity-of, halving-floor}
 
 -- the exclusive or of parities is the parity of the sum
 xor-with-bit : {n : ℕ} (b : ℕ) (xs ys : List ℕ) → length xs ≡ length ys → Words n (2 ^ b) ys → xorAll (withBit b xs ys) ≡ xorAll ys + 2 ^ b * parity (sum xs)

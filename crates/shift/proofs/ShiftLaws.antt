@@ -16,7 +16,7 @@ use Rattle.draws.proofs.RunLaws.{run-done, bind-ran, bind-ended}
 use Rattle.shares.specs.declared.Shared.{Shared}
 use Rattle.shares.specs.Arrays.{Held, Gave}
 use Rattle.shares.proofs.ArraysLaws.{gave}
-use Rattle.shift.specs.Halving.{halving}
+use Rattle.halving.specs.Halving.{halving}
 use Rattle.shift.specs.Shift.{shift}
 
 -- i of t halvings are made: those that are left give the same as all of them

@@ -1,4 +1,2 @@
-pub mod Halving
-pub mod AtOnce
 pub mod Shift
 pub mod ToBoolean

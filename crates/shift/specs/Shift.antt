@@ -2,7 +2,7 @@
 use mathlib.Core.List.{List, [], _++_}
 use Prim.Native.Nat.{ℕ, zero, suc, _*_, _^_}
 use Rattle.draws.specs.Draws.{Draws, done, bind}
-use Rattle.shift.specs.Halving.{halving, halvingPlan}
+use Rattle.halving.specs.Halving.{halving, halvingPlan}
 
 unfoldable pub shift : ℕ → ℕ → List ℕ → Draws (List ℕ)
 shift m zero xs = done xs

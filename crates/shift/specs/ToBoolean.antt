@@ -4,7 +4,7 @@ use Prim.Native.Nat.{ℕ, zero, suc, _+_, _-_, _*_, _^_}
 use lib.ListN.{length, getD, replicate}
 use Rattle.numbers.specs.Lists.{along}
 use Rattle.draws.specs.Draws.{Draws, done, bind}
-use Rattle.shift.specs.Halving.{parity, halving}
+use Rattle.halving.specs.Halving.{parity, halving}
 use Rattle.shift.specs.Shift.{shiftPlan}
 
 -- bit b of each Boolean share is the parity of the arithmetic share at its place

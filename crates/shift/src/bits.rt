@@ -1,5 +1,5 @@
 // Arithmetic shares mod 2^k to Boolean shares of width k.
-use super::halving::halve;
+use halving::halve;
 use shares::Shared;
 use tape::Cursor;
 use words::power;

@@ -1,5 +1,5 @@
 // The shift by t, from 2^t·m to m.
-use super::halving::halve;
+use halving::halve;
 use shares::Shared;
 use tape::Cursor;
 use words::power;

@@ -1,5 +1,5 @@
 use borrow.Author.Needs.{needs}
-use mathlib.Core.Path.{_≡_, refl, sym, _∙_}
+use mathlib.Core.Path.{_≡_, refl, sym, subst, _∙_}
 use native.Mathlib.Omega.{arith}
 use lib.ListN.{length}
 use denote.Ref.{now}
@@ -11,6 +11,7 @@ use Rattle.shares.specs.Sharing.{arithmetic}
 use Rattle.shift.specs.Shift.{shift}
 use Rattle.gadgets.specs.Shift.{shiftRange, shiftGadget}
 use Rattle.gadgets.proofs.RangeLaws.{shift-range-out, whole-power, whole-least}
+use Prim.Native.Nat.{ℕ, _/_, _≤_}
 use Rattle.gadgets.proofs.shifts.shift.Statement.{statement}
 use Rattle.gadgets.proofs.shifts.shift.Tie as tie
 
@@ -59,7 +60,8 @@ shift-by-requires c κs = let b = c .before .before in
 close-requires : tie.Need-close-requires
 close-requires c κs = let b = c .before .before .before in
     let p = good (b .before) in
-    held-given p (rw (b .power .ensures) (shift-range-out _ _ (p .range) .3)) (c .shift-by .ensures)
+    let a = b .before .before .before .before .before .before .before .args in
+    held-given p (subst (λ (s : ℕ). 2 ≤ a .modulus / s) (sym (b .power .ensures)) (shift-range-out _ _ (p .range) .3)) (c .shift-by .ensures)
 
 finish-requires : tie.Need-finish-requires
 finish-requires c κs = let p = good (c .before .before .before .before .before .before) in omega (arith, p .fits, p .most)

@@ -4,7 +4,7 @@ use native.Mathlib.Omega.{arith}
 use Prim.Native.Nat.{_+_, _-_, _*_, _%_, _^_, _<_}
 use lib.ListN.{getD}
 use Rattle.shift.specs.ToBoolean.{withBit}
-use Rattle.shift.specs.Halving.{parity}
+use Rattle.halving.specs.Halving.{parity}
 use Rattle.numbers.proofs.AlongLaws.{Along, along-start, along-read, along-more, along-all}
 use Rattle.shift.proofs.BitLaws.{bit-fits}
 use Rattle.shift.proofs.bits.with_bit.Statement.{statement}

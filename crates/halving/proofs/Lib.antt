@@ -1,0 +1,4 @@
+pub mod ParityLaws
+pub mod MoveLaws
+pub mod HalvingLaws
+pub mod FloorLaws
