@@ -119,7 +119,7 @@ module _ (shares : List ℕ) (room : ℕ) (inRange : Bool) (M : ℕ) where
       first false k m e n = absurd (n e)
 
 -- the bound of a width that is in range
-pub bound-of-width : {k r : ℕ} → r ≡ 2 ^ (k % 32) → k ≤ 31 → r ≡ 2 ^ k
+bound-of-width : {k r : ℕ} → r ≡ 2 ^ (k % 32) → k ≤ 31 → r ≡ 2 ^ k
 bound-of-width e h = e ∙ ap (λ (j : ℕ). 2 ^ j) (mod-eq-of-lt (omega arith))
 
 -- what was checked, of a range and a bound that were computed; the bound counts only where the parameters are in range
@@ -131,3 +131,8 @@ checked shares room {k} {a} {b} {M} {N} e f h = subst (λ (c : Bool). k ≡ firs
     go : (c : Bool) → (c ≡ true → M ≡ N) → firstFailing (checks shares room c M) ≡ firstFailing (checks shares room c N)
     go true g = rw (g refl)
     go false g = refl
+
+-- the same of a width from 1 to high, and of 2 to it
+pub checked-width : (shares : List ℕ) (room : ℕ) {r : ℕ} {a : Bool} {M : ℕ} (high k : ℕ) → high ≤ 31 → r ≡ firstFailing (checks shares room a M) → a ≡ inside 1 high k →
+    M ≡ 2 ^ (k % 32) → r ≡ firstFailing (checks shares room (inside 1 high k) (2 ^ k))
+checked-width shares room high k h e f g = checked shares room e f (λ t. let (low, most) = inside-out 1 high k t in bound-of-width g (omega arith))

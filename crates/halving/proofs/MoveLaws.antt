@@ -26,11 +26,11 @@ use Rattle.halving.specs.AtOnce.{gathered, settled}
 
 -- ---- the loop that gathers the parities
 module _ (M : ℕ) (xs : List ℕ) (last : ℕ) where
-  pub gathered-start : gathered M xs last 0 ≡ getD xs last 0
+  gathered-start : gathered M xs last 0 ≡ getD xs last 0
   unfolding gathered over
   gathered-start = refl
 
-  pub gathered-more : (i : ℕ) → gathered M xs last (i + 1) ≡ addMod M (gathered M xs last i) (parity (getD xs i 0))
+  gathered-more : (i : ℕ) → gathered M xs last (i + 1) ≡ addMod M (gathered M xs last i) (parity (getD xs i 0))
   unfolding gathered
   gathered-more i = over-more _ i (getD xs last 0)
 

@@ -70,7 +70,7 @@ module _ (M p : ℕ) where
       let u = signed-words (omega arith) w in
       rw (join-signed xs) (words-change (λ a. addMod M a p) 0 u (sums M (omega arith) .add-below _ p (words-at (omega arith) u 0) (omega arith)))
 
-  pub join-take : (n : ℕ) (xs : List ℕ) → take n (join M p xs) ≡ join M p (take n xs)
+  join-take : (n : ℕ) (xs : List ℕ) → take n (join M p xs) ≡ join M p (take n xs)
   join-take n xs = ap (take n) (join-is xs) ∙ take-along _ _ n xs (λ i x l. refl) ∙ sym (join-is (take n xs))
 
 -- ---- the loop: what is left to join gives the same as the whole

@@ -1,15 +1,14 @@
 -- The refresh keeps the value, its words stay below the bound, and it makes n - 1 draws: over any n, M and k.
-use mathlib.Core.Path.{_≡_, refl, sym, subst}
+use mathlib.Core.Path.{_≡_, sym, subst}
 use mathlib.Core.List.{List}
 use Prim.Native.Nat.{ℕ, zero, suc, _+_, _-_, _≤_, _<_}
 use native.Mathlib.Nat.{sub-zero}
 use native.Mathlib.Omega.{arith}
 use lib.ListN.{length, replicate}
-use Rattle.numbers.specs.Lists.{Words}
 use Rattle.draws.specs.Draws.{bind, turns, each}
 use Rattle.draws.proofs.Outcomes.{Gives}
-use Rattle.draws.proofs.PlanLaws.{gives-done, gives-draw, gives-as}
-use Rattle.shares.specs.Sharing.{Sharing, bound, value, move}
+use Rattle.draws.proofs.PlanLaws.{gives-done, gives-draw}
+use Rattle.shares.specs.Sharing.{Sharing, bound, move}
 use Rattle.shares.specs.Refresh.{turn, refresh, refreshPlan}
 use Rattle.shares.proofs.SharingLaws.{Shares}
 use Rattle.shares.proofs.MoveLaws.{move-keeps}
@@ -32,6 +31,3 @@ module _ (s : Sharing) (pos : 0 < bound s) where
   refresh-keeps n v xs h a =
       subst (λ p. Gives (Shares s n v) p (replicate (n - 1) (bound s))) (sym (refresh-turns s (n - 1) xs (omega (arith, a .words .size))))
       (turns-keep (n - 1) 0 (n - 1) v xs (omega arith) (omega arith) a)
-
-  pub refresh-gives : (n : ℕ) (xs : List ℕ) → 0 < n → Words n (bound s) xs → Gives (Words n (bound s)) (refresh s xs) (refreshPlan s n)
-  refresh-gives n xs h w = gives-as (λ ys a. a .words) (refresh-keeps n (value s xs) xs h (record { words = w; is = refl }))

@@ -25,7 +25,7 @@ use Rattle.shift.specs.ToBoolean.{withBit, bitsFrom, toBoolean}
 use Rattle.halving.proofs.ParityLaws.{take-zeros}
 
 -- bit b put onto a word below 2^b
-pub bit-below : (b x y : ℕ) → x < 2 ^ b → x + 2 ^ b * parity y < 2 ^ suc b
+bit-below : (b x y : ℕ) → x < 2 ^ b → x + 2 ^ b * parity y < 2 ^ suc b
 bit-below b x y h = let l : 2 ^ b * (y % 2) ≤ 2 ^ b * 1 = mul-le-mul-left (2 ^ b) (omega arith) in rw pow-suc (omega arith)
 
 -- as the code computes it, in 32 bits

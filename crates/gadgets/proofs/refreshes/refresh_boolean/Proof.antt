@@ -5,7 +5,7 @@ use lib.ListN.{length}
 use denote.Ref.{now}
 use Rattle.draws.specs.Draws.{bind, done}
 use Rattle.gate.specs.Checks.{inside, firstFailing, checks}
-use Rattle.gate.proofs.CheckLaws.{Passed, all-passed, inside-out, bound-of-width, checked}
+use Rattle.gate.proofs.CheckLaws.{Passed, all-passed, inside-out, checked-width}
 use Rattle.gate.proofs.GadgetLaws.{silent-refused, silent-ran, on-copy, held}
 use Prim.Native.Nat.{ℕ, _^_, _≤_}
 use lib.Pow.{pow-mono}
@@ -21,7 +21,7 @@ inside-requires c κs = search needs
 number : (c : tie.After-first-failing) →
     let a = c .before .before .before .before .before .before .args in
     c .first-failing .result ≡ firstFailing (checks (now (a .shares)) (length (now (a .out))) (inside 1 31 (a .width)) (2 ^ a .width))
-number c = checked _ _ (c .first-failing .ensures) (c .before .before .inside .ensures) (λ t. bound-of-width (c .before .width-bound .ensures) (inside-out 1 31 _ t .1))
+number c = checked-width _ _ 31 _ (omega arith) (c .first-failing .ensures) (c .before .before .inside .ensures) (c .before .width-bound .ensures)
 
 good : (c : tie.Else1) →
     let a = c .before .before .before .before .before .before .before .args in

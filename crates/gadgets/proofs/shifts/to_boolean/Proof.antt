@@ -6,7 +6,7 @@ use denote.Ref.{now}
 use Rattle.gate.specs.Checks.{inside, firstFailing, checks}
 use Prim.Native.Nat.{_^_}
 use lib.Pow.{pow-mono}
-use Rattle.gate.proofs.CheckLaws.{Passed, all-passed, inside-out, bound-of-width, checked}
+use Rattle.gate.proofs.CheckLaws.{Passed, all-passed, inside-out, checked-width}
 use Rattle.gate.proofs.GadgetLaws.{silent-refused, silent-ran, closed-on-copy, held, held-given}
 use Rattle.shares.specs.Sharing.{arithmetic, boolean}
 use Rattle.shift.specs.ToBoolean.{toBoolean}
@@ -17,7 +17,7 @@ use Rattle.gadgets.proofs.shifts.to_boolean.Tie as tie
 number : (c : tie.After-first-failing) →
     let a = c .before .before .before .before .before .before .args in
     c .first-failing .result ≡ firstFailing (checks (now (a .shares)) (length (now (a .out))) (inside 1 31 (a .k)) (2 ^ a .k))
-number c = checked _ _ (c .first-failing .ensures) (c .before .before .inside .ensures) (λ t. bound-of-width (c .before .width-bound .ensures) (inside-out 1 31 _ t .1))
+number c = checked-width _ _ 31 _ (omega arith) (c .first-failing .ensures) (c .before .before .inside .ensures) (c .before .width-bound .ensures)
 
 good : (c : tie.Else1) →
     let a = c .before .before .before .before .before .before .before .args in
