@@ -1,10 +1,10 @@
 // The calls that are made.
-use super::inputs::Pair;
-use super::inputs::bound;
-use super::inputs::fill;
-use super::inputs::fill_shares;
-use super::inputs::parameters;
-use super::inputs::room_for;
+use super::parameters::Pair;
+use super::parameters::bound;
+use super::parameters::parameters;
+use super::shares::fill;
+use super::shares::fill_shares;
+use super::shares::room_for;
 use super::tally::Tally;
 use super::tally::low;
 use super::tally::mix;
@@ -28,10 +28,10 @@ pub fn name(gadget: u32) -> bool {
 
 pub fn call(gadget: u32, shares: &[u32], tape: &[u32], p: Pair, out: &mut [u32]) -> Answer {
     match gadget {
-        1 => refresh(shares, tape, p.a, out),
-        2 => refresh_boolean(shares, tape, p.a, out),
-        3 => shift(shares, tape, p.a, p.b, out),
-        _ => to_boolean(shares, tape, p.a, out),
+        1 => refresh(shares, tape, p.first, out),
+        2 => refresh_boolean(shares, tape, p.first, out),
+        3 => shift(shares, tape, p.first, p.second, out),
+        _ => to_boolean(shares, tape, p.first, out),
     }
 }
 
@@ -77,7 +77,7 @@ fn four_times(t: Tally, gadget: u32, shares: &[u32], tape: &[u32], p: Pair, room
 fn filled(t: Tally, gadget: u32, r: u32, tape: &mut [u32], shares: &mut [u32]) -> Tally {
     let x = fill(tape, 0, mix(mix(gadget, low(shares.len())), r));
     let p = parameters(gadget, r, x);
-    fill_shares(gadget, shares, bound(gadget, p.a), r, x);
+    fill_shares(gadget, shares, bound(gadget, p.first), r, x);
     four_times(t, gadget, shares, tape, p, room_for(shares.len(), r))
 }
 

@@ -1,10 +1,11 @@
 // Runs the public gadgets on the hand cases and on many pseudo-random calls, and prints for each gadget and share count how often
 // each number was answered and a checksum of everything answered. docs/CASES.md says which calls are made.
 mod calls;
-mod inputs;
+mod parameters;
+mod shares;
 mod tally;
 
-use inputs::Pair;
+use parameters::Pair;
 use tape::Cursor;
 use tape::Draw;
 use words::Q;

@@ -70,11 +70,11 @@ shift-unique M t = unique (shiftGadget M t)
 pub to-boolean-unique : (k : ℕ) (shares tape out : List ℕ) → Unique standsFor (tells (toBooleanGadget k) shares tape out)
 to-boolean-unique k = unique (toBooleanGadget k)
 
--- t·d² + d draws, and (k - 1)·d² + d, for d = n - 1
-pub shift-plan : (M t n : ℕ) → length (plan (shiftClaim M t) n) ≡ t * ((n - 1) * (n - 1)) + (n - 1)
+-- t·d² + d draws a call, and (k - 1)·d² + d, for d = n - 1
+pub shift-call-draws : (M t n : ℕ) → length (plan (shiftClaim M t) n) ≡ t * ((n - 1) * (n - 1)) + (n - 1)
 unfolding plan refreshPlan
-shift-plan M t n = length-append (shiftPlan (M / 2 ^ t) t n) _ ∙ rw (shift-draws (M / 2 ^ t) t n, length-replicate)
+shift-call-draws M t n = length-append (shiftPlan (M / 2 ^ t) t n) _ ∙ rw (shift-draws (M / 2 ^ t) t n, length-replicate)
 
-pub to-boolean-plan : (k n : ℕ) → length (plan (toBooleanClaim k) n) ≡ (k - 1) * ((n - 1) * (n - 1)) + (n - 1)
+pub to-boolean-call-draws : (k n : ℕ) → length (plan (toBooleanClaim k) n) ≡ (k - 1) * ((n - 1) * (n - 1)) + (n - 1)
 unfolding plan refreshPlan toBooleanPlan
-to-boolean-plan k n = length-append (shiftPlan 2 (k - 1) n) _ ∙ rw (shift-draws 2 (k - 1) n, length-replicate)
+to-boolean-call-draws k n = length-append (shiftPlan 2 (k - 1) n) _ ∙ rw (shift-draws 2 (k - 1) n, length-replicate)

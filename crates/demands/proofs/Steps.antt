@@ -41,7 +41,7 @@ unfolding closed plan
 closed-give {c} s r n least most xs w =
     gives-bind _ (refreshPlan out n) (s .give r n least most xs w)
     (λ o d. gives-map (Claimed c n xs) (λ zs. record { opened = o .opened; shares = zs })
-    (refresh-keeps out (s .positive r) n (value out (o .shares)) (o .shares) (omega arith) (record { words = d .words; is = refl }))
+    (refresh-keeps out (s .positive r) (value out (o .shares)) (o .shares) (omega arith) (record { words = d .words; is = refl }))
     (λ zs k. record { opened = d .opened; words = k .words; plain = subst (c .Plain (value (c .gadget .input) xs)) (sym (k .is)) (d .plain) }))
   where
     out : Sharing

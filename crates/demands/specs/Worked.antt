@@ -1,4 +1,4 @@
--- Calls worked by hand beyond document 01's table, where no case has three shares: they show the order of the shares, and that the demands
+-- Calls worked by hand beyond document 01's table, where no case has three shares: they show the order of the shares, into which one a parity moves, and that the demands
 -- speak of something.
 use mathlib.Core.Path.{_≡_}
 use mathlib.Core.List.{[], _∷_}
@@ -13,11 +13,11 @@ pub record Worked : Type 0 where
   -- the low three bits of 9 and 4 are 1 and 4
   pub refreshed-boolean : tells (booleanGadget 3) (5 ∷ 6 ∷ 1 ∷ []) (9 ∷ 4 ∷ []) (0 ∷ 0 ∷ 0 ∷ [])
       ≡ record { number = 0; opened = []; used = 2; out = 4 ∷ 2 ∷ 4 ∷ [] }
-  -- four draws below 12, of which one word, 13, is skipped; four below 6; and two below 3. The shares sum to 11 mod 12, and then to 2 mod 3
-  pub shifted : tells (shiftGadget 12 2) (7 ∷ 10 ∷ 6 ∷ []) (5 ∷ 11 ∷ 13 ∷ 2 ∷ 9 ∷ 3 ∷ 4 ∷ 1 ∷ 0 ∷ 2 ∷ 5 ∷ 1 ∷ []) (0 ∷ 0 ∷ 0 ∷ [])
+  -- 3, 5, 3, 10 are drawn below 12; 3, 4, 4, 0 below 6, where 7 is skipped; 2 and 1 below 3. The shares sum to 10 mod 12, and then to 2 mod 3
+  pub shifted : tells (shiftGadget 12 2) (7 ∷ 7 ∷ 8 ∷ []) (3 ∷ 5 ∷ 3 ∷ 10 ∷ 3 ∷ 12 ∷ 7 ∷ 4 ∷ 0 ∷ 6 ∷ 13 ∷ 8 ∷ []) (0 ∷ 0 ∷ 0 ∷ [])
       ≡ record { number = 0; opened = []; used = 11; out = 0 ∷ 2 ∷ 0 ∷ [] }
-  -- 5 + 6 + 7 is 2 mod 8, and so is the exclusive or
-  pub made-boolean : tells (toBooleanGadget 3) (5 ∷ 6 ∷ 7 ∷ []) (5 ∷ 1 ∷ 2 ∷ 3 ∷ 0 ∷ 1 ∷ 3 ∷ 2 ∷ 6 ∷ 1 ∷ []) (0 ∷ 0 ∷ 0 ∷ [])
-      ≡ record { number = 0; opened = []; used = 10; out = 3 ∷ 3 ∷ 2 ∷ [] }
+  -- 5 + 1 + 1 is 7, and so is the exclusive or
+  pub made-boolean : tells (toBooleanGadget 3) (5 ∷ 1 ∷ 1 ∷ []) (3 ∷ 3 ∷ 0 ∷ 3 ∷ 6 ∷ 1 ∷ 4 ∷ 1 ∷ 1 ∷ 0 ∷ []) (0 ∷ 0 ∷ 0 ∷ [])
+      ≡ record { number = 0; opened = []; used = 10; out = 0 ∷ 5 ∷ 2 ∷ [] }
   -- one word too few, and the output slice stays as it was
   pub short : tells (refreshGadget 10) (7 ∷ 8 ∷ 9 ∷ []) (12 ∷ 3 ∷ []) (1 ∷ 2 ∷ 3 ∷ []) ≡ record { number = 5; opened = []; used = 0; out = 1 ∷ 2 ∷ 3 ∷ [] }

@@ -12,17 +12,20 @@ use Rattle.gate.specs.Checks.{inside}
 use Rattle.gate.proofs.CheckLaws.{both-left, both-right, inside-yes, inside-out}
 use Rattle.gadgets.specs.Shift.{shiftRange}
 
+abbrev pub ShiftRange : ℕ → ℕ → Type 0
+ShiftRange M t = (M ≤ 4294967295) × ((1 ≤ t) × (t ≤ 31)) × (M % 2 ^ t ≡ 0) × (2 ≤ M / 2 ^ t)
+
 module _ (M t : ℕ) where
   -- of a modulus of 32 bits the rest is checked
   pub shift-range-word : M ≤ 4294967295 → shiftRange M t ≡ both (inside 1 31 t) (both (eqb (M % 2 ^ t) 0) (leb 2 (M / 2 ^ t)))
   unfolding shiftRange
   shift-range-word m = rw (le-leb M 4294967295 m)
 
-  pub shift-range-in : (M ≤ 4294967295) × ((1 ≤ t) × (t ≤ 31)) × (M % 2 ^ t ≡ 0) × (2 ≤ M / 2 ^ t) → shiftRange M t ≡ true
+  pub shift-range-in : ShiftRange M t → shiftRange M t ≡ true
   unfolding shiftRange
   shift-range-in (m, (l, h), d, two) = rw (le-leb M 4294967295 m, inside-yes 1 31 t l h, eq-eqb (M % 2 ^ t) 0 d) (le-leb 2 (M / 2 ^ t) two)
 
-  pub shift-range-out : shiftRange M t ≡ true → (M ≤ 4294967295) × ((1 ≤ t) × (t ≤ 31)) × (M % 2 ^ t ≡ 0) × (2 ≤ M / 2 ^ t)
+  pub shift-range-out : shiftRange M t ≡ true → ShiftRange M t
   unfolding shiftRange
   shift-range-out e =
       let f = both-right (leb M 4294967295) _ e in

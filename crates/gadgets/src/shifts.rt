@@ -12,22 +12,29 @@ use shift::shift_by;
 use tape::Cursor;
 use words::power;
 ghost use mathlib.Core.Path.{_≡_};
+ghost use Prim.Native.Nat.{_/_, _^_, _≤_};
 ghost use Rattle.gate.specs.Told.{standsFor};
 ghost use Rattle.gate.specs.Gadget.{tells};
 ghost use Rattle.gadgets.specs.Shift.{shiftRange, shiftGadget, toBooleanGadget};
 
-// The divisor is a power of two, so this compiles to a mask and a shift.
+// The modulus without its t factors of 2. Its divisor, and that of the remainder below, is a power of two, so both compile to a shift and a mask.
+fn quotient(modulus: u32, t: u32) -> u32
+    requires { ⌜ t ≤ 31 ⌝ }
+    ensures { λ r. ⌜ r ≡ modulus / 2 ^ t ⌝ }
+{
+    modulus / power(t)
+}
+
 fn shift_range(modulus: u32, t: u32) -> bool
     ensures { λ r. ⌜ r ≡ shiftRange modulus t ⌝ }
 {
     if !inside(1, 31, t) {
         return false;
     }
-    let span = power(t);
-    if modulus % span != 0 {
+    if modulus % power(t) != 0 {
         return false;
     }
-    2 <= modulus / span
+    2 <= quotient(modulus, t)
 }
 
 pub fn shift(shares: &[u32], tape: &[u32], modulus: u32, t: u32, out: &mut [u32]) -> Answer
@@ -38,7 +45,7 @@ pub fn shift(shares: &[u32], tape: &[u32], modulus: u32, t: u32, out: &mut [u32]
         return refused(number);
     }
     let n = shares.len();
-    let m = modulus / power(t);
+    let m = quotient(modulus, t);
     let s = shift_by(copy_in(shares), n, m, t, Cursor::start(), tape);
     finish(close(s, n, m, tape), out)
 }

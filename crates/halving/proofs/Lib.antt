@@ -1,4 +1,4 @@
 pub mod ParityLaws
-pub mod MoveLaws
+pub mod EvenLaws
 pub mod HalvingLaws
-pub mod FloorLaws
+pub mod ValueLaws

@@ -3,7 +3,6 @@ use mathlib.Core.Path.{_≡_, refl, sym, ap, _∙_}
 use mathlib.Core.Bool.{Bool, true, false}
 use mathlib.Core.List.{List, _∷_}
 use Prim.Native.Nat.{ℕ, zero, suc, _+_, _-_, _≤_, _<_}
-use native.Mathlib.Nat.{not-suc-le-zero}
 use native.Mathlib.Omega.{arith}
 use lib.ListN.{length, getD, set, take, replicate}
 use lib.Seq.{length-take-le, getD-take}
@@ -13,7 +12,7 @@ use Rattle.numbers.specs.Tests.{pick}
 use Rattle.numbers.specs.Modulo.{addMod, negMod}
 use Rattle.numbers.specs.Lists.{Words, change, along}
 use Rattle.numbers.proofs.GroupLaws.{sums}
-use Rattle.numbers.proofs.WordsLaws.{words-at, words-same, words-change, length-change, change-here, change-other}
+use Rattle.numbers.proofs.WordsLaws.{words-at, words-same, take-replicate, words-change, length-change, change-here, change-other}
 use Rattle.numbers.proofs.AlongLaws.{length-along, along-at, along-is, take-along, words-along}
 use Rattle.tape.specs.declared.Cursor.{Cursor}
 use Rattle.tape.specs.Tape.{Ran, ended, ran}
@@ -79,11 +78,6 @@ pub record Joining (size n M : ℕ) (xs tape : List ℕ) (x : Ran (List ℕ)) (i
   pub held : Held size n M words
   pub same : run (each (joinTurn M (take n xs)) i n (take n words)) tape p ≡ x
 
-pub take-zeros : (n k a : ℕ) → n ≤ k → take n (replicate k a) ≡ replicate n a
-take-zeros zero k a h = refl
-take-zeros (suc n) zero a h = absurd (not-suc-le-zero h)
-take-zeros (suc n) (suc k) a h = ap (a ∷_) (take-zeros n k a (omega arith))
-
 pub joining-start : (size n M : ℕ) (xs tape : List ℕ) (p : Cursor) → Held size n M xs →
     Joining size n M xs tape (run (sharedParity M (take n xs)) tape p) 1 (set (replicate size 0) 0 (parity (getD xs 0 0))) p
 unfolding sharedParity
@@ -99,7 +93,7 @@ joining-start size n M xs tape p h =
     begins : (k m : ℕ) → m ≤ k → 0 < m → take m (set (replicate k 0) 0 (parity (getD xs 0 0))) ≡ parity (getD xs 0 0) ∷ replicate (m - 1) 0
     begins k zero l q = absurd (omega arith)
     begins zero (suc m) l q = absurd (omega arith)
-    begins (suc k) (suc m) l q = let e : suc m - 1 ≡ m = omega arith in rw e (ap (parity (getD xs 0 0) ∷_) (take-zeros m k 0 (omega arith)))
+    begins (suc k) (suc m) l q = let e : suc m - 1 ≡ m = omega arith in rw e (ap (parity (getD xs 0 0) ∷_) (take-replicate m k 0 (omega arith)))
 
 module _ {size n M : ℕ} {xs tape : List ℕ} {x : Ran (List ℕ)} {i : ℕ} {words : List ℕ} {p : Cursor} (a : Joining size n M xs tape x i words p) where
   pub joining-done : n ≤ i → ran (take n words) p ≡ x

@@ -13,47 +13,53 @@ ghost use Rattle.shares.specs.Arrays.{Held, Gave};
 ghost use Rattle.halving.specs.Halving.{join, sharedParity};
 ghost use Rattle.halving.specs.AtOnce.{signed, joined};
 
-// A word with the sign that a parity asks for: no branch, since parities are as good as random.
-fn signed(p: u32, x: u32, m: u32) -> u32
-    requires { ⌜ x < m ⌝ }
-    ensures { λ r. ⌜ r ≡ signed m p x ⌝ }
+// A word with the sign that a parity asks for. Chosen word by word: a branch on a parity would be mispredicted every other time.
+fn signed(p: u32, x: u32, modulus: u32) -> u32
+    requires { ⌜ x < modulus ⌝ }
+    ensures { λ r. ⌜ r ≡ signed modulus p x ⌝ }
 {
-    if p == 1 { neg_mod(x, m) } else { x }
+    if p == 1 { neg_mod(x, modulus) } else { x }
 }
 
 // The word at place i once a parity has joined.
-fn joined(i: usize, p: u32, x: u32, m: u32) -> u32
-    requires { ⌜ (x < m) × (2 ≤ m) × (p < 2) ⌝ }
-    ensures { λ r. ⌜ r ≡ joined m p i x ⌝ }
+fn joined(i: usize, p: u32, x: u32, modulus: u32) -> u32
+    requires { ⌜ (x < modulus) × (2 ≤ modulus) × (p < 2) ⌝ }
+    ensures { λ r. ⌜ r ≡ joined modulus p i x ⌝ }
 {
-    let y = signed(p, x, m);
-    if i == 0 { add_mod(y, p, m) } else { y }
+    let y = signed(p, x, modulus);
+    if i == 0 { add_mod(y, p, modulus) } else { y }
 }
 
-fn join(words: [u32; 8], p: u32, m: u32) -> [u32; 8]
-    requires { ⌜ Words 8 m words × (2 ≤ m) × (p < 2) ⌝ }
-    ensures { λ r. ⌜ r ≡ join m p words ⌝ }
+fn join(words: [u32; 8], p: u32, modulus: u32) -> [u32; 8]
+    requires { ⌜ Words 8 modulus words × (2 ≤ modulus) × (p < 2) ⌝ }
+    ensures { λ r. ⌜ r ≡ join modulus p words ⌝ }
 {
     let mut out = words;
     for i in 0..8 {
-        out[i] = joined(i, p, out[i], m);
+        out[i] = joined(i, p, out[i], modulus);
     }
     out
 }
 
-pub fn shared_parity(shares: [u32; 8], n: usize, m: u32, cursor: Cursor, tape: &[u32]) -> Shared
-    requires { ⌜ Held 8 n m shares ⌝ }
-    ensures { λ r. ⌜ Gave n m r (run (sharedParity m (take n shares)) (now (tape .entry)) cursor) ⌝ }
+pub fn shared_parity(
+    shares: [u32; 8],
+    n: usize,
+    modulus: u32,
+    cursor: Cursor,
+    tape: &[u32],
+) -> Shared
+    requires { ⌜ Held 8 n modulus shares ⌝ }
+    ensures { λ r. ⌜ Gave n modulus r (run (sharedParity modulus (take n shares)) (now (tape .entry)) cursor) ⌝ }
 {
     let mut words = [shares[0] % 2, 0, 0, 0, 0, 0, 0, 0];
     let mut cur = cursor;
     for i in 1..n {
-        let s = refresh(words, n, m, cur, tape);
+        let s = refresh(words, n, modulus, cur, tape);
         if !s.ok {
             return Shared::ended();
         }
         let fresh = s.words;
-        words = join(fresh, shares[i] % 2, m);
+        words = join(fresh, shares[i] % 2, modulus);
         cur = s.cursor;
     }
     Shared {

@@ -13,25 +13,25 @@ ghost use Rattle.shares.specs.Arrays.{Held, Gave};
 ghost use Rattle.halving.specs.Halving.{less, evened, halves, halving};
 ghost use Rattle.halving.specs.AtOnce.{gathered, settled};
 
-fn subtract(shares: [u32; 8], a: [u32; 8], m: u32) -> [u32; 8]
-    requires { ⌜ Words 8 m shares × Words 8 m a ⌝ }
-    ensures { λ r. ⌜ r ≡ less m a shares ⌝ }
+fn subtract(shares: [u32; 8], a: [u32; 8], modulus: u32) -> [u32; 8]
+    requires { ⌜ Words 8 modulus shares × Words 8 modulus a ⌝ }
+    ensures { λ r. ⌜ r ≡ less modulus a shares ⌝ }
 {
     let mut words = shares;
     for i in 0..8 {
-        words[i] = sub_mod(words[i], a[i], m);
+        words[i] = sub_mod(words[i], a[i], modulus);
     }
     words
 }
 
 // The last share with the parities of the others added.
-fn gathered(shares: [u32; 8], last: usize, m: u32) -> u32
-    requires { ⌜ Words 8 m shares × (2 ≤ m) × (last < 8) ⌝ }
-    ensures { λ r. ⌜ (r < m) × (r ≡ gathered m shares last last) ⌝ }
+fn gathered(shares: [u32; 8], last: usize, modulus: u32) -> u32
+    requires { ⌜ Words 8 modulus shares × (2 ≤ modulus) × (last < 8) ⌝ }
+    ensures { λ r. ⌜ (r < modulus) × (r ≡ gathered modulus shares last last) ⌝ }
 {
     let mut end = shares[last];
     for i in 0..last {
-        end = add_mod(end, shares[i] % 2, m);
+        end = add_mod(end, shares[i] % 2, modulus);
     }
     end
 }
@@ -43,12 +43,12 @@ fn settled(i: usize, x: u32, last: usize, end: u32) -> u32
 }
 
 // The parities are gathered first and each word is then written once, which is the same as moving one parity after another.
-fn move_parities(shares: [u32; 8], n: usize, m: u32) -> [u32; 8]
-    requires { ⌜ Held 8 n m shares ⌝ }
-    ensures { λ r. ⌜ Words 8 m r × (take n r ≡ evened m (take n shares)) ⌝ }
+fn move_parities(shares: [u32; 8], n: usize, modulus: u32) -> [u32; 8]
+    requires { ⌜ Held 8 n modulus shares ⌝ }
+    ensures { λ r. ⌜ Words 8 modulus r × (take n r ≡ evened modulus (take n shares)) ⌝ }
 {
     let last = n - 1;
-    let end = gathered(shares, last, m);
+    let end = gathered(shares, last, modulus);
     let mut words = shares;
     for i in 0..8 {
         words[i] = settled(i, words[i], last, end);

@@ -1,10 +1,10 @@
 -- Laws of words put together: sums modulo M and exclusive or alike, over any group of words below M.
-use mathlib.Core.Path.{_≡_, sym, ap, ap₂, _∙_}
+use mathlib.Core.Path.{_≡_, refl, sym, ap, ap₂, _∙_}
 use mathlib.Core.List.{List, [], _∷_}
 use Prim.Native.Nat.{ℕ, zero, suc, _+_, _%_, _<_}
 use native.Mathlib.Nat.{le-of-suc-le-suc, add-mod-mod, mod-eq-of-lt}
 use native.Mathlib.Omega.{arith}
-use lib.ListN.{length, getD, set, length-set}
+use lib.ListN.{length, getD, set, replicate, length-set}
 use lib.Seq.{getD-set-same, set-set}
 use Rattle.numbers.specs.Modulo.{addMod}
 use Rattle.numbers.specs.Lists.{Words, fold, sum, change}
@@ -16,6 +16,11 @@ pub fold-sum : (M : ℕ) → 0 < M → (xs : List ℕ) → fold (addMod M) xs �
 unfolding fold addMod sum
 fold-sum M h [] = sym (mod-eq-of-lt h)
 fold-sum M h (x ∷ xs) = ap (λ (s : ℕ). (x + s) % M) (fold-sum M h xs) ∙ add-mod-mod x (sum xs) M
+
+pub fold-zeros : (add : ℕ → ℕ → ℕ) → add 0 0 ≡ 0 → (k : ℕ) → fold add (replicate k 0) ≡ 0
+unfolding fold
+fold-zeros add e zero = refl
+fold-zeros add e (suc k) = ap (add 0) (fold-zeros add e k) ∙ e
 
 module _ {M : ℕ} {add sub : ℕ → ℕ → ℕ} (G : Group M add sub) where
   open Group G using (positive, add-below, sub-below, comm, assoc, sub-add)

@@ -9,11 +9,11 @@ use Rattle.numbers.specs.Modulo.{subMod, negMod}
 use Rattle.numbers.specs.Lists.{fold, sum, along}
 use Rattle.numbers.proofs.Cong.{Cong, cong-eq, cong-refl, cong-add, via}
 use Rattle.numbers.proofs.GroupLaws.{sub-back}
+use Rattle.numbers.proofs.FoldLaws.{fold-zeros}
 
 pub sum-zeros : (k : ℕ) → sum (replicate k 0) ≡ 0
-unfolding sum fold
-sum-zeros zero = refl
-sum-zeros (suc k) = omega (arith, sum-zeros k)
+unfolding sum
+sum-zeros k = fold-zeros _+_ refl k
 
 -- the first i + 1 words
 pub sum-more : (xs : List ℕ) (i : ℕ) → i < length xs → sum (take (suc i) xs) ≡ sum (take i xs) + getD xs i 0

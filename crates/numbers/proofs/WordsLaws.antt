@@ -43,6 +43,11 @@ words-up h w = record { size = w .size; below = λ i l. omega (arith, w .below i
 pub words-same : {n M v : ℕ} → v < M → Words n M (replicate n v)
 words-same {n} {v = v} h = record { size = length-replicate n v; below = λ i l. rw (getD-replicate n i v 0 l) h }
 
+pub take-replicate : (n k a : ℕ) → n ≤ k → take n (replicate k a) ≡ replicate n a
+take-replicate zero k a h = refl
+take-replicate (suc n) zero a h = absurd (omega arith)
+take-replicate (suc n) (suc k) a h = ap (a ∷_) (take-replicate n k a (le-of-suc-le-suc h))
+
 -- the list f 0, f 1, .. of k numbers
 pub table : (ℕ → ℕ) → ℕ → List ℕ
 table f zero = []

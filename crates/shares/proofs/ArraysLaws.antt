@@ -2,7 +2,7 @@
 use mathlib.Core.Path.{_≡_, sym, _∙_}
 use mathlib.Core.Bool.{Bool, true, false, not}
 use mathlib.Core.List.{List}
-use Prim.Native.Nat.{ℕ, _<_}
+use Prim.Native.Nat.{ℕ, _≤_, _<_}
 use native.Mathlib.Omega.{arith}
 use lib.ListN.{getD, take, set}
 use borrow.Author.Tests.{not-true, not-false}
@@ -18,9 +18,12 @@ module _ {size n M : ℕ} {words : List ℕ} (a : Held size n M words) where
   pub held-at : (i : ℕ) → getD words i 0 < M
   held-at i = words-at (omega (arith, a .two)) (a .all) i
 
-  -- other words
+  -- as many shares in other words, below another bound
+  pub held-below : {N : ℕ} {others : List ℕ} → 2 ≤ N → Words size N others → Held size n N others
+  held-below h w = record { least = a .least; most = a .most; two = h; all = w }
+
   pub held-of : {others : List ℕ} → Words size M others → Held size n M others
-  held-of w = record { least = a .least; most = a .most; two = a .two; all = w }
+  held-of w = held-below (a .two) w
 
   -- a word below M stored
   pub held-set : (i : ℕ) {v : ℕ} → v < M → Held size n M (set words i v)

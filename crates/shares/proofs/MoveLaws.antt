@@ -44,7 +44,7 @@ module _ (s : Sharing) (pos : 0 < bound s) (from to r : ℕ) (h : r < bound s) w
   added : {n : ℕ} {xs : List ℕ} → Words n (bound s) xs → Words n (bound s) (change (λ x. plus s x r) to xs)
   added {xs = xs} w = words-change (λ x. plus s x r) to w (add-below (getD xs to 0) r (words-at pos w to) h)
 
-  pub move-words : {n : ℕ} {xs : List ℕ} → Words n (bound s) xs → Words n (bound s) (move s from to r xs)
+  move-words : {n : ℕ} {xs : List ℕ} → Words n (bound s) xs → Words n (bound s) (move s from to r xs)
   unfolding move
   move-words w = let u = added w in words-change (λ x. minus s x r) from u (sub-below _ r (words-at pos u from) h)
 

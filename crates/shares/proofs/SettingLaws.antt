@@ -125,7 +125,7 @@ module _ (s : Sharing) where
       fed-shares : Words (suc d) (bound s) (feed (refresh s ys) rs) × (fold (plus s) (feed (refresh s ys) rs) ≡ fold (plus s) ys)
       unfolding refreshPlan
       fed-shares =
-          let g = refresh-keeps s pos (suc d) (value s ys) ys (omega arith) (record { words = wy; is = refl }) in
+          let g = refresh-keeps s pos (value s ys) ys (omega arith) (record { words = wy; is = refl }) in
           let e : suc d - 1 ≡ d = omega arith in
           let a = always-feed (g .plan) (g .always) rs (subst (λ (k : ℕ). Fits (replicate k (bound s)) rs) (sym e) (words-fit d (bound s) rs w)) in
           (a .words, fold-value s pos (feed (refresh s ys) rs) ∙ a .is ∙ sym (fold-value s pos ys))

@@ -1,5 +1,5 @@
 -- Arithmetic to Boolean keeps the value: over any n and k, whatever the draws.
-use mathlib.Core.Path.{_≡_, refl, sym, ap, ap₂, subst, subst₂, _∙_}
+use mathlib.Core.Path.{_≡_, sym, ap, ap₂, subst, subst₂, _∙_}
 use mathlib.Core.List.{List, [], _∷_}
 use Prim.Native.Nat.{ℕ, zero, suc, _+_, _-_, _*_, _/_, _%_, _^_, _≤_, _<_}
 use native.Mathlib.Nat.{pow-suc, mod-lt}
@@ -11,7 +11,7 @@ use Rattle.numbers.specs.Lists.{Words, fold, sum, xorAll, along}
 use Rattle.numbers.proofs.XorLaws.{xor-self, xor-bit, xor-parts}
 use Rattle.numbers.proofs.GroupLaws.{xors}
 use Rattle.numbers.proofs.WordsLaws.{words-head, words-tail, words-same}
-use Rattle.numbers.proofs.FoldLaws.{fold-below}
+use Rattle.numbers.proofs.FoldLaws.{fold-zeros, fold-below}
 use Rattle.draws.proofs.Outcomes.{Gives}
 use Rattle.draws.proofs.PlanLaws.{gives-bind, gives-done}
 use Rattle.shares.specs.Sharing.{arithmetic, boolean}
@@ -20,7 +20,7 @@ use Rattle.halving.specs.Halving.{parity}
 use Rattle.shift.specs.Shift.{shiftPlan}
 use Rattle.shift.specs.ToBoolean.{withBit, bitsFrom, toBoolean, toBooleanPlan}
 use Rattle.shift.proofs.BitLaws.{with-bit-words}
-use Rattle.halving.proofs.FloorLaws.{parity-of, halving-floor}
+use Rattle.halving.proofs.ValueLaws.{parity-of, halving-floor}
 
 -- the exclusive or of parities is the parity of the sum
 xor-with-bit : {n : ℕ} (b : ℕ) (xs ys : List ℕ) → length xs ≡ length ys → Words n (2 ^ b) ys → xorAll (withBit b xs ys) ≡ xorAll ys + 2 ^ b * parity (sum xs)
@@ -70,14 +70,10 @@ bits-keep b (suc h) n u v xs ys l a c =
 
 -- arithmetic to Boolean keeps the value
 pub to-boolean-keeps : (k n v : ℕ) (xs : List ℕ) → 1 ≤ k → 0 < n → Shares (arithmetic (2 ^ k)) n v xs → Gives (Shares (boolean k) n v) (toBoolean k xs) (toBooleanPlan k n)
-unfolding toBoolean toBooleanPlan xorAll fold
+unfolding toBoolean toBooleanPlan xorAll
 to-boolean-keeps k n v xs h l a =
     let e : suc (k - 1) ≡ k = omega arith in
     let f : 0 + suc (k - 1) ≡ k = omega arith in
     let g : 0 + 2 ^ 0 * v ≡ v = omega arith in
     rw (a .words .size) (subst₂ (λ (j w : ℕ). Gives (Shares (boolean j) n w) (bitsFrom 0 (k - 1) xs (replicate n 0)) (shiftPlan 2 (k - 1) n)) f g
-    (bits-keep 0 (k - 1) n 0 v xs (replicate n 0) l (rw e a) (record { words = words-same (omega arith); is = xor-zeros n })))
-  where
-    xor-zeros : (m : ℕ) → xorAll (replicate m 0) ≡ 0
-    xor-zeros zero = refl
-    xor-zeros (suc m) = ap (xor 0) (xor-zeros m) ∙ xor-self 0
+    (bits-keep 0 (k - 1) n 0 v xs (replicate n 0) l (rw e a) (record { words = words-same (omega arith); is = fold-zeros xor (xor-self 0) n })))

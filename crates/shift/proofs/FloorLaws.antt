@@ -4,14 +4,14 @@ use mathlib.Core.List.{List}
 use Prim.Native.Nat.{ℕ, zero, suc, _-_, _*_, _/_, _^_, _<_}
 use native.Mathlib.Nat.{div-one, div-div-eq-div-mul, pow-suc, one-mul, mul-pos}
 use native.Mathlib.Omega.{arith}
-use lib.ListN.{length, length-replicate, length-append}
+use lib.ListN.{length, length-append}
 use lib.Pow.{pow-pos}
 use Rattle.draws.proofs.Outcomes.{Gives}
 use Rattle.draws.proofs.PlanLaws.{gives-bind, gives-done}
 use Rattle.shares.specs.Sharing.{arithmetic}
 use Rattle.shares.proofs.SharingLaws.{Shares}
 use Rattle.halving.specs.Halving.{halvingPlan}
-use Rattle.halving.proofs.FloorLaws.{halving-floor}
+use Rattle.halving.proofs.ValueLaws.{halving-draws, halving-floor}
 use Rattle.shift.specs.Shift.{shift, shiftPlan}
 
 pub shift-floor : (m t n v : ℕ) (xs : List ℕ) → 0 < m → 0 < n → Shares (arithmetic (2 ^ t * m)) n v xs → Gives (Shares (arithmetic m) n (v / 2 ^ t)) (shift m t xs) (shiftPlan m t n)
@@ -27,6 +27,6 @@ shift-floor m (suc t) n v xs hm h a =
 
 -- a shift by t makes t·(n - 1)² draws
 pub shift-draws : (m t n : ℕ) → length (shiftPlan m t n) ≡ t * ((n - 1) * (n - 1))
-unfolding shiftPlan halvingPlan
+unfolding shiftPlan
 shift-draws m zero n = omega arith
-shift-draws m (suc t) n = length-append (halvingPlan (2 ^ t * m) n) (shiftPlan m t n) ∙ rw (length-replicate, shift-draws m t n) (omega arith)
+shift-draws m (suc t) n = length-append (halvingPlan (2 ^ t * m) n) (shiftPlan m t n) ∙ rw (halving-draws (2 ^ t * m) n, shift-draws m t n) (omega arith)

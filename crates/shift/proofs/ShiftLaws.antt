@@ -15,7 +15,7 @@ use Rattle.draws.specs.Draws.{bind, run}
 use Rattle.draws.proofs.RunLaws.{run-done, bind-ran, bind-ended}
 use Rattle.shares.specs.declared.Shared.{Shared}
 use Rattle.shares.specs.Arrays.{Held, Gave}
-use Rattle.shares.proofs.ArraysLaws.{gave}
+use Rattle.shares.proofs.ArraysLaws.{held-below, gave}
 use Rattle.halving.specs.Halving.{halving}
 use Rattle.shift.specs.Shift.{shift}
 
@@ -52,12 +52,15 @@ module _ {n m t : ℕ} {tape : List ℕ} {x : Ran (List ℕ)} {i : ℕ} {words :
     left : t - i ≡ suc (t - (i + 1))
     left = omega arith
 
-    -- the next modulus
+    -- the modulus is even, and half of it is the next
+    twice : modulus ≡ 2 * (2 ^ (t - (i + 1)) * m)
+    twice = let e : modulus ≡ 2 ^ (t - (i + 1)) * 2 * m = a .is ∙ ap (λ (k : ℕ). 2 ^ k * m) left ∙ rw pow-suc in omega arith
+
     half : modulus / 2 ≡ 2 ^ (t - (i + 1)) * m
-    half = let e : modulus ≡ 2 ^ (t - (i + 1)) * 2 * m = a .is ∙ ap (λ (k : ℕ). 2 ^ k * m) left ∙ rw pow-suc in omega arith
+    half = omega (arith, twice)
 
     even : 2 * (modulus / 2) ≡ modulus
-    even = let e : modulus ≡ 2 ^ (t - (i + 1)) * 2 * m = a .is ∙ ap (λ (k : ℕ). 2 ^ k * m) left ∙ rw pow-suc in omega arith
+    even = omega (arith, twice)
 
     pub shifting-held : Held 8 n (2 * (modulus / 2)) words
     shifting-held = subst (λ (k : ℕ). Held 8 n k words) (sym even) (a .held)
@@ -78,11 +81,7 @@ module _ {n m t : ℕ} {tape : List ℕ} {x : Ran (List ℕ)} {i : ℕ} {words :
           is = half;
           word = omega (arith, a .word);
           held =
-              record {
-                least = a .held .least;
-                most = a .held .most;
-                two = let l : 1 * m ≤ 2 ^ (t - (i + 1)) * m = mul-le-mul-right m (pow-pos (t - (i + 1))) in rw half (omega (arith, a .two));
-                all = g .below (not-false (r .ok) ok);
-              };
+              held-below (a .held) (let l : 1 * m ≤ 2 ^ (t - (i + 1)) * m = mul-le-mul-right m (pow-pos (t - (i + 1))) in rw half (omega (arith, a .two)))
+              (g .below (not-false (r .ok) ok));
           same = sym (rw parts (bind-ran (halving (modulus / 2) (take n words)) _ tape p (take n (r .words)) (r .cursor) (gave g ok))) ∙ a .same;
         }

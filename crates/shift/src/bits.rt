@@ -29,20 +29,20 @@ pub fn to_boolean(shares: [u32; 8], n: usize, k: u32, cursor: Cursor, tape: &[u3
     ensures { λ r. ⌜ Gave n (2 ^ k) r (run (toBoolean k (take n shares)) (now (tape .entry)) cursor) ⌝ }
 {
     let mut words = [0u32; 8];
-    let mut left = shares;
+    let mut rest = shares;
     let mut cur = cursor;
     for b in 0..k - 1 {
-        let more = with_bit(words, left, b);
-        let s = halve(left, n, power(k - 1 - b), cur, tape);
+        let more = with_bit(words, rest, b);
+        let s = halve(rest, n, power(k - 1 - b), cur, tape);
         if !s.ok {
             return Shared::ended();
         }
         words = more;
-        left = s.words;
+        rest = s.words;
         cur = s.cursor;
     }
     Shared {
-        words: with_bit(words, left, k - 1),
+        words: with_bit(words, rest, k - 1),
         cursor: cur,
         ok: true,
     }

@@ -1,6 +1,6 @@
 // The shift by t, which is t halvings, and arithmetic shares mod 2^k to Boolean ones, with a halving between bits.
 mod bits;
-mod by;
+mod halvings;
 
 pub use bits::to_boolean;
-pub use by::shift_by;
+pub use halvings::shift_by;

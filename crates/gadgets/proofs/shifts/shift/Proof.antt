@@ -4,14 +4,13 @@ use native.Mathlib.Omega.{arith}
 use lib.ListN.{length}
 use denote.Ref.{now}
 use Rattle.gate.specs.Checks.{firstFailing, checks}
-use lib.Pow.{pow-pos}
 use Rattle.gate.proofs.CheckLaws.{Passed, all-passed, checked}
 use Rattle.gate.proofs.GadgetLaws.{silent-refused, silent-ran, closed-on-copy, held, held-given}
 use Rattle.shares.specs.Sharing.{arithmetic}
 use Rattle.shift.specs.Shift.{shift}
 use Rattle.gadgets.specs.Shift.{shiftRange, shiftGadget}
 use Rattle.gadgets.proofs.RangeLaws.{shift-range-out, whole-power, whole-least}
-use Prim.Native.Nat.{ℕ, _/_, _≤_}
+use Prim.Native.Nat.{ℕ, _≤_}
 use Rattle.gadgets.proofs.shifts.shift.Statement.{statement}
 use Rattle.gadgets.proofs.shifts.shift.Tie as tie
 
@@ -38,11 +37,8 @@ returns : tie.Need-returns
 unfolding shiftGadget
 returns c = silent-refused _ _ _ _ _ _ _ (number (c .before .before)) (c .before .if1 .taken) (c .refused .ensures _)
 
-power-requires : tie.Need-power-requires
-power-requires c κs = shift-range-out _ _ (good c .range) .1 .1
-
-div-m : tie.Need-div-m
-div-m c = rw (c .power .ensures) (pow-pos _)
+quotient-requires : tie.Need-quotient-requires
+quotient-requires c κs = shift-range-out _ _ (good c .range) .1 .1
 
 copy-in-requires : tie.Need-copy-in-requires
 copy-in-requires c κs = good (c .before) .most
@@ -55,13 +51,12 @@ shift-by-requires c κs = let b = c .before .before in
     let p = good (b .before) in
     let (m, (low, high), d, two) = shift-range-out _ _ (p .range) in
     let e = whole-power _ _ d in
-    rw (b .power .ensures) (high, two, rw (← e) (omega arith), rw (← e) (held p (whole-least _ _ d two) (c .before .copy-in .ensures)))
+    rw (b .quotient .ensures) (high, two, rw (← e) (omega arith), rw (← e) (held p (whole-least _ _ d two) (c .before .copy-in .ensures)))
 
 close-requires : tie.Need-close-requires
 close-requires c κs = let b = c .before .before .before in
     let p = good (b .before) in
-    let a = b .before .before .before .before .before .before .before .args in
-    held-given p (subst (λ (s : ℕ). 2 ≤ a .modulus / s) (sym (b .power .ensures)) (shift-range-out _ _ (p .range) .3)) (c .shift-by .ensures)
+    held-given p (subst (λ (m : ℕ). 2 ≤ m) (sym (b .quotient .ensures)) (shift-range-out _ _ (p .range) .3)) (c .shift-by .ensures)
 
 finish-requires : tie.Need-finish-requires
 finish-requires c κs = let p = good (c .before .before .before .before .before .before) in omega (arith, p .fits, p .most)
@@ -76,7 +71,7 @@ returns-2 c = let f = c .before .before in
     let r = l .before in
     let b = r .before .before .before in
     let p = good (b .before) in
-    rw (← b .power .ensures)
+    rw (← b .quotient .ensures)
     (silent-ran _ _ _ _ _ _ _ (sym (number (b .before .before)) ∙ b .before .if1 .left) (f .finish .ensures)
     (closed-on-copy (shift _ _) (arithmetic _) _ (r .before .before .copy-in .ensures) (p .fits) (r .before .start .ensures) (r .shift-by .ensures) (l .close .ensures)))
 
@@ -88,8 +83,7 @@ shift-spec =
     first-failing-requires
     refused-requires
     returns
-    power-requires
-    div-m
+    quotient-requires
     copy-in-requires
     start-requires
     shift-by-requires

@@ -8,10 +8,10 @@ use Rattle.halving.proofs.parity.join.Statement.{statement}
 use Rattle.halving.proofs.parity.join.Tie as tie
 
 abbrev Inv-loop : tie.InvT-loop
-Inv-loop p m out₀ i₀ out i = Along 8 (joined m p) out₀ i out
+Inv-loop p modulus out₀ i₀ out i = Along 8 (joined modulus p) out₀ i out
 
 abbrev μ-loop : tie.MeasureT-loop
-μ-loop p m out₀ i₀ out i = 8 - i
+μ-loop p modulus out₀ i₀ out i = 8 - i
 
 loop-holds : tie.Need-loop-holds Inv-loop μ-loop
 loop-holds c = along-start (search needs)

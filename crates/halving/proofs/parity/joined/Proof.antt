@@ -11,7 +11,7 @@ signed-requires c κs = search needs
 add-mod-requires : tie.Need-add-mod-requires
 add-mod-requires c κs = let b = c .before in
     let a = b .before .args in
-    (rw (b .signed .ensures) (signed-below (a .m) (a .p) (omega arith) (b .before .pre .0)), omega arith)
+    (rw (b .signed .ensures) (signed-below (a .modulus) (a .p) (omega arith) (b .before .pre .0)), omega arith)
 
 returns : tie.Need-returns
 returns c = rw (eq-eqb (c .before .before .before .args .i) 0 (c .before .if1 .taken), c .add-mod .ensures, c .before .before .signed .ensures)

@@ -12,10 +12,10 @@ use Rattle.halving.proofs.parity.shared_parity.Statement.{statement}
 use Rattle.halving.proofs.parity.shared_parity.Tie as tie
 
 abbrev Inv-loop : tie.InvT-loop
-Inv-loop n m tape shares words₀ cur₀ i₀ words cur i = Joining 8 n m shares tape (run (sharedParity m (take n shares)) tape cur₀) i words cur
+Inv-loop n modulus tape shares words₀ cur₀ i₀ words cur i = Joining 8 n modulus shares tape (run (sharedParity modulus (take n shares)) tape cur₀) i words cur
 
 abbrev μ-loop : tie.MeasureT-loop
-μ-loop n m tape shares words₀ cur₀ i₀ words cur i = n - i
+μ-loop n modulus tape shares words₀ cur₀ i₀ words cur i = n - i
 
 array-read-t14 : tie.Need-array-read-t14 Inv-loop μ-loop
 array-read-t14 c = search needs

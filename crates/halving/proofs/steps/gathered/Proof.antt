@@ -1,15 +1,15 @@
 use borrow.Author.Needs.{needs}
 use Prim.Native.Nat.{_-_}
 use native.Mathlib.Omega.{arith}
-use Rattle.halving.proofs.MoveLaws.{Gathering, gathering-start, gathering-more, gathering-all}
+use Rattle.halving.proofs.EvenLaws.{Gathering, gathering-start, gathering-more, gathering-all}
 use Rattle.halving.proofs.steps.gathered.Statement.{statement}
 use Rattle.halving.proofs.steps.gathered.Tie as tie
 
 abbrev Inv-loop : tie.InvT-loop
-Inv-loop last m shares end₀ i₀ end i = Gathering m shares last i end
+Inv-loop last modulus shares end₀ i₀ end i = Gathering modulus shares last i end
 
 abbrev μ-loop : tie.MeasureT-loop
-μ-loop last m shares end₀ i₀ end i = last - i
+μ-loop last modulus shares end₀ i₀ end i = last - i
 
 mul-end : tie.Need-mul-end Inv-loop μ-loop
 mul-end c = search needs

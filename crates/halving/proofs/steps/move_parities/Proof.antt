@@ -2,15 +2,15 @@ use borrow.Author.Needs.{needs}
 use Prim.Native.Nat.{_-_}
 use Rattle.numbers.proofs.AlongLaws.{Along, along-start, along-more, along-all}
 use Rattle.halving.specs.AtOnce.{settled}
-use Rattle.halving.proofs.MoveLaws.{settled-words, settled-take}
+use Rattle.halving.proofs.EvenLaws.{settled-words, settled-take}
 use Rattle.halving.proofs.steps.move_parities.Statement.{statement}
 use Rattle.halving.proofs.steps.move_parities.Tie as tie
 
 abbrev Inv-loop : tie.InvT-loop
-Inv-loop n m last end words₀ i₀ words i = Along 8 (settled last end) words₀ i words
+Inv-loop n modulus last end words₀ i₀ words i = Along 8 (settled last end) words₀ i words
 
 abbrev μ-loop : tie.MeasureT-loop
-μ-loop n m last end words₀ i₀ words i = 8 - i
+μ-loop n modulus last end words₀ i₀ words i = 8 - i
 
 sub-last : tie.Need-sub-last Inv-loop μ-loop
 sub-last c = search needs

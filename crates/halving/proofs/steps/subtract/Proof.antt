@@ -8,10 +8,10 @@ use Rattle.halving.proofs.steps.subtract.Statement.{statement}
 use Rattle.halving.proofs.steps.subtract.Tie as tie
 
 abbrev Inv-loop : tie.InvT-loop
-Inv-loop m a words₀ i₀ words i = Along 8 (λ j x. subMod m x (getD a j 0)) words₀ i words
+Inv-loop modulus a words₀ i₀ words i = Along 8 (λ j x. subMod modulus x (getD a j 0)) words₀ i words
 
 abbrev μ-loop : tie.MeasureT-loop
-μ-loop m a words₀ i₀ words i = 8 - i
+μ-loop modulus a words₀ i₀ words i = 8 - i
 
 loop-holds : tie.Need-loop-holds Inv-loop μ-loop
 loop-holds c = along-start (search needs)

@@ -11,10 +11,10 @@ use Rattle.shift.proofs.bits.to_boolean.Statement.{statement}
 use Rattle.shift.proofs.bits.to_boolean.Tie as tie
 
 abbrev Inv-loop : tie.InvT-loop
-Inv-loop n k tape words₀ left₀ cur₀ b₀ b-end words left cur b = Building n k tape (run (toBoolean k (take n left₀)) tape cur₀) b words left cur
+Inv-loop n k tape words₀ rest₀ cur₀ b₀ b-end words rest cur b = Building n k tape (run (toBoolean k (take n rest₀)) tape cur₀) b words rest cur
 
 abbrev μ-loop : tie.MeasureT-loop
-μ-loop n k tape words₀ left₀ cur₀ b₀ b-end words left cur b = b-end - b
+μ-loop n k tape words₀ rest₀ cur₀ b₀ b-end words rest cur b = b-end - b
 
 sub-b-end : tie.Need-sub-b-end Inv-loop μ-loop
 sub-b-end c = search needs

@@ -7,8 +7,8 @@ use Rattle.draws.specs.Draws.{run}
 use Rattle.shares.proofs.ArraysLaws.{stopped, whole, cut-off}
 use Rattle.shift.specs.Shift.{shift}
 use Rattle.shift.proofs.ShiftLaws.{Shifting, shifting-start, shifting-done, shifting-words, shifting-held, shifting-ended, shifting-more}
-use Rattle.shift.proofs.by.shift_by.Statement.{statement}
-use Rattle.shift.proofs.by.shift_by.Tie as tie
+use Rattle.shift.proofs.halvings.shift_by.Statement.{statement}
+use Rattle.shift.proofs.halvings.shift_by.Tie as tie
 
 abbrev Inv-loop : tie.InvT-loop
 Inv-loop n m t tape words₀ modulus₀ cur₀ counter₀ words modulus cur counter = Shifting n m t tape (run (shift m t (take n words₀)) tape cur₀) counter words modulus cur

@@ -6,7 +6,7 @@ use Prim.Native.Nat.{ℕ, zero, suc, _+_, _-_, _*_, _/_, _%_, _≤_, _<_}
 use native.Mathlib.Nat.{div-add-mod', mod-lt, mod-eq-of-lt}
 use native.Mathlib.Omega.{arith}
 use native.Mathlib.Decide.{ℕ-discrete}
-use lib.ListN.{length, getD, take, replicate}
+use lib.ListN.{length, getD, take, replicate, length-replicate}
 use lib.Seq.{take-all}
 use lib.Dec.{eqb}
 use Rattle.numbers.specs.Tests.{pick}
@@ -27,7 +27,7 @@ use Rattle.shares.proofs.RefreshLaws.{refresh-keeps}
 use Rattle.halving.specs.Halving.{parity, negated, join, joinTurn, sharedParity, less, evened, halves, halving, halvingPlan}
 use Rattle.halving.specs.AtOnce.{signed}
 use Rattle.halving.proofs.ParityLaws.{signed-is, signed-words, join-signed, join-words}
-use Rattle.halving.proofs.MoveLaws.{evened-keeps, evened-even}
+use Rattle.halving.proofs.EvenLaws.{evened-keeps, evened-even}
 use Rattle.halving.proofs.HalvingLaws.{less-words, halves-words}
 
 -- ---- the shared parity
@@ -42,7 +42,7 @@ signed-sum {M} two (suc zero) c ps hp hc e =
 signed-sum two (suc (suc p)) c ps hp hc e = absurd (omega arith)
 
 module _ {n M : ℕ} (two : 2 ≤ M) where
-  pub join-keeps : (p c : ℕ) (ps : List ℕ) → p < 2 → c < 2 → 0 < n → Shares (arithmetic M) n c ps → Shares (arithmetic M) n ((c + p) % 2) (join M p ps)
+  join-keeps : (p c : ℕ) (ps : List ℕ) → p < 2 → c < 2 → 0 < n → Shares (arithmetic M) n c ps → Shares (arithmetic M) n ((c + p) % 2) (join M p ps)
   unfolding addMod
   join-keeps p c ps hp hc h a =
       let turned : List ℕ = along (λ i x. signed M p x) ps in
@@ -65,7 +65,7 @@ module _ {n M : ℕ} (two : 2 ≤ M) where
   unfolding joinTurn
   turn-keeps xs i ps h l a =
       let e : (sum (take i xs) % 2 + parity (getD xs i 0)) % 2 ≡ sum (take (suc i) xs) % 2 = omega (arith, sum-more xs i l) in
-      gives-map _ (join M (parity (getD xs i 0))) (refresh-keeps (arithmetic M) (omega arith) n (sum (take i xs) % 2) ps h a)
+      gives-map _ (join M (parity (getD xs i 0))) (refresh-keeps (arithmetic M) (omega arith) (sum (take i xs) % 2) ps h a)
       (λ qs b. subst (λ (v : ℕ). Shares (arithmetic M) n v (join M (parity (getD xs i 0)) qs)) e
       (join-keeps (parity (getD xs i 0)) (sum (take i xs) % 2) qs (omega arith) (omega arith) h b))
 
@@ -105,7 +105,7 @@ parity-shares m n v xs hm h a =
     (parity-keeps (omega arith) xs (a .words .size) h)
 
 -- ---- the steps after it
-pub less-keeps : (M n v c : ℕ) (ps xs : List ℕ) → 0 < M → c ≤ v → Shares (arithmetic M) n c ps → Shares (arithmetic M) n v xs → Shares (arithmetic M) n (v - c) (less M ps xs)
+less-keeps : (M n v c : ℕ) (ps xs : List ℕ) → 0 < M → c ≤ v → Shares (arithmetic M) n c ps → Shares (arithmetic M) n v xs → Shares (arithmetic M) n (v - c) (less M ps xs)
 unfolding less
 less-keeps M n v c ps xs h l b a =
     let rest : List ℕ = less M ps xs in
@@ -135,7 +135,7 @@ every-even m n v xs hm h ev a j l = go (ℕ-discrete j (n - 1))
     go (yes e) = rw e (sym (sum-parity (n - 1) zs (omega (arith, kept .words .size)) before) ∙ parity-of m (sum zs) v (kept .is) ∙ ev)
     go (no k) = before j (omega (arith, k))
 
-pub halves-keep : (m n v : ℕ) (xs : List ℕ) → 0 < m → Shares (arithmetic (2 * m)) n v xs → ((j : ℕ) → j < n → parity (getD xs j 0) ≡ 0) → Shares (arithmetic m) n (v / 2) (halves xs)
+halves-keep : (m n v : ℕ) (xs : List ℕ) → 0 < m → Shares (arithmetic (2 * m)) n v xs → ((j : ℕ) → j < n → parity (getD xs j 0) ≡ 0) → Shares (arithmetic m) n (v / 2) (halves xs)
 unfolding halves
 halves-keep m n v xs hm a even =
     let twice = sum-halves xs (λ j l. even j (omega (arith, a .words .size))) in
@@ -145,7 +145,12 @@ halves-keep m n v xs hm a even =
       is = cong-by {M = m} {a = sum (halves xs)} {b = v / 2} 0 (sum xs / (2 * m)) (omega (arith, twice, a .is, div-add-mod' (sum xs) (2 * m))) .eq ∙ mod-eq-of-lt (omega arith);
     }
 
--- a halving recombines to floor(x/2)
+-- a halving makes (n - 1)² draws
+pub halving-draws : (m n : ℕ) → length (halvingPlan m n) ≡ (n - 1) * (n - 1)
+unfolding halvingPlan
+halving-draws m n = length-replicate ((n - 1) * (n - 1)) (2 * m)
+
+-- and recombines to floor(x/2)
 pub halving-floor : (m n v : ℕ) (xs : List ℕ) → 0 < m → 0 < n → Shares (arithmetic (2 * m)) n v xs → Gives (Shares (arithmetic m) n (v / 2)) (halving m xs) (halvingPlan m n)
 unfolding halving
 halving-floor m n v xs hm h a =
