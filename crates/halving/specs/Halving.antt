@@ -13,11 +13,11 @@ use Rattle.shares.specs.Refresh.{refresh}
 abbrev pub parity : ℕ → ℕ
 parity x = x % 2
 
--- all shares negated
+-- all of A, whose shares are ps, negated
 unfoldable pub negated : ℕ → List ℕ → List ℕ
-negated M ps = along (λ i p. negMod M p) ps
+negated M ps = along (λ i a. negMod M a) ps
 
--- a parity p joins the shares A: if p = 1, all of A is negated; then p is added to A's first share
+-- a parity p joins A: if p = 1, all of A is negated; then p is added to A's first share
 unfoldable pub join : ℕ → ℕ → List ℕ → List ℕ
 join M p ps = change (λ a. addMod M a p) 0 (pick (eqb p 1) (negated M ps) ps)
 
