@@ -3,7 +3,6 @@ use mathlib.Core.Path.{refl}
 use mathlib.Core.List.{List}
 use Prim.Native.Nat.{ℕ}
 use native.Mathlib.Omega.{arith}
-use lib.Pow.{pow-pos, pow-mono}
 use Rattle.draws.specs.Draws.{bind}
 use Rattle.draws.proofs.PlanLaws.{gives-done}
 use Rattle.gate.specs.Told.{standsFor}
@@ -13,7 +12,7 @@ use Rattle.gadgets.specs.Refresh.{refreshGadget, booleanGadget}
 use Rattle.demands.specs.Demands.{Demands}
 use Rattle.demands.specs.Unique.{Unique}
 use Rattle.demands.specs.Refresh.{refreshClaim, booleanClaim}
-use Rattle.demands.proofs.Steps.{Steps}
+use Rattle.demands.proofs.Steps.{width-range, Steps}
 use Rattle.demands.proofs.Demands.{demands}
 use Rattle.demands.proofs.Unique.{unique}
 
@@ -21,10 +20,13 @@ refresh-steps : (M : ℕ) → Steps (refreshClaim M)
 unfolding refreshGadget silentSteps bind
 refresh-steps M =
     record {
-      in-range = inside-out 2 4294967295 M;
-      range-in = λ r. inside-yes 2 4294967295 M (r .0) (r .1);
-      positive = λ r. omega (arith, r .0);
-      word = λ r. omega (arith, r .1);
+      range =
+          record {
+            in-range = inside-out 2 4294967295 M;
+            range-in = λ r. inside-yes 2 4294967295 M (r .0) (r .1);
+            positive = λ r. omega (arith, r .0);
+            word = λ r. omega (arith, r .1);
+          };
       opens-fields = λ x. refl;
       give = λ r n least most xs w. gives-done (record { opened = refl; words = w; plain = refl });
     }
@@ -33,10 +35,7 @@ boolean-steps : (k : ℕ) → Steps (booleanClaim k)
 unfolding booleanGadget silentSteps bind
 boolean-steps k =
     record {
-      in-range = inside-out 1 31 k;
-      range-in = λ r. inside-yes 1 31 k (r .0) (r .1);
-      positive = λ r. pow-pos k;
-      word = λ r. pow-mono {i = k} {j = 32} (omega (arith, r .1));
+      range = width-range k;
       opens-fields = λ x. refl;
       give = λ r n least most xs w. gives-done (record { opened = refl; words = w; plain = refl });
     }

@@ -34,8 +34,8 @@ module _ {c : Claim} (s : Steps c) (shares tape out : List ℕ) where
       record {
         bad-count = λ n. by-check 1 (fails-1 _ _ _ _ (not-so _ (λ e. n (inside-out 2 8 (length shares) e)))) (λ z. omega arith);
         bad-length = λ h n. by-check 2 (fails-2 _ _ _ _ (count h) n) (λ z. omega arith);
-        bad-parameter = λ h r n. by-check 3 (fails-3 _ _ _ _ (count h) r (not-so _ (λ e. n (s .in-range e)))) (λ z. omega arith);
-        bad-share = λ h r i n. by-check 4 (fails-4 _ _ _ _ (count h) r (s .range-in i) (not-so _ (λ e. n (below-words _ shares e)))) (λ z. omega arith);
+        bad-parameter = λ h r n. by-check 3 (fails-3 _ _ _ _ (count h) r (not-so _ (λ e. n (s .range .in-range e)))) (λ z. omega arith);
+        bad-share = λ h r i n. by-check 4 (fails-4 _ _ _ _ (count h) r (s .range .range-in i) (not-so _ (λ e. n (below-words _ shares e)))) (λ z. omega arith);
         short-tape = λ v e. tells-short c shares tape out (valid-passes s v) (planned-ended (valid-gives s v .plan) tape start e);
         no-other = λ v rs p e. ap (λ (t : Told). t .number) (tells-success c shares tape out (valid-passes s v) (planned-ran (valid-gives s v .plan) tape start e));
         or-succeeds = λ n. go n (ending c shares tape out);

@@ -27,13 +27,13 @@ module _ {c : Claim} (s : Steps c) {shares out : List ℕ} where
   unfolding checkNumber
   valid-passes v =
       sym (fails-none shares (length out) (c .gadget .inRange) (bound (c .gadget .input)) (inside-yes 2 8 (length shares) (v .counted .0) (v .counted .1)) (v .room)
-      (s .range-in (v .range)) (words-below (v .below)))
+      (s .range .range-in (v .range)) (words-below (v .below)))
 
   pub passes-valid : checkNumber (c .gadget) shares out ≡ 0 → Valid c shares out
   unfolding checkNumber
   passes-valid e =
       let p = all-passed shares (length out) (c .gadget .inRange) (bound (c .gadget .input)) e in
-      record { counted = (p .least, p .most); room = p .fits; range = s .in-range (p .range); below = p .below }
+      record { counted = (p .least, p .most); room = p .fits; range = s .range .in-range (p .range); below = p .below }
 
   pub valid-gives : Valid c shares out → Gives (Claimed c (length shares) shares) (program c shares) (plan c (length shares))
   valid-gives v = closed-give s (v .range) (length shares) (v .counted .0) (v .counted .1) shares (v .below)

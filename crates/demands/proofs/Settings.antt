@@ -92,7 +92,7 @@ module _ {c : Claim} (s : Steps c) (shares tape out : List ℕ) where
       unfolding closingAnew given o marks M
       told-on us w =
           tells-success c second (closingAnew c n tape us) slice (valid-passes s v)
-          (anew-run marks (n - 1) M y are-closing us (s .positive (v .range)) (s .word (v .range)) w (program c second) (gy .plan)
+          (anew-run marks (n - 1) M y are-closing us (s .range .positive (v .range)) (s .range .word (v .range)) w (program c second) (gy .plan)
           ∙ ap (λ z. ran z (x .place))
           (ap (λ (l : List ℕ). feed (program c second) (merged marks l us)) (f .all)
           ∙ ap (feed (program c second)) (merged-after (closingMarks n) (f .snd) us (f .fit-fst))
@@ -110,7 +110,7 @@ module _ {c : Claim} (s : Steps c) (shares tape out : List ℕ) where
           (subst (SameTold n j (success (given us) (x .place))) (sym (x .told-so)) (works us t)))
           (λ us w t. subst (λ (a : Told). SameBut n j (a .out) (x .outcome .shares)) (told-on us w)
           (subst (λ (a : Told). SameBut n j (tells (c .gadget) second (closingAnew c n tape us) slice .out) (a .out)) (x .told-so) (t .shares)))
-          (refresh-closes (c .gadget .output) (s .positive (v .range)) n (o .shares) (x .outcome .shares) (as-claimed .words) (shown .words) j hj (f .snd) (f .fit-snd))
+          (refresh-closes (c .gadget .output) (s .range .positive (v .range)) n (o .shares) (x .outcome .shares) (as-claimed .words) (shown .words) j hj (f .snd) (f .fit-snd))
 
     -- a setting with which the second input gives the same count of words has only numbers below M
     below : {rs : List ℕ} → Reads tape (plan c n) start rs (places (plan c n) tape start) (x .place) → (us : List ℕ) → Words (n - 1) (2 ^ bitsOf M) us →
@@ -134,7 +134,7 @@ module _ {c : Claim} (s : Steps c) (shares tape out : List ℕ) where
     one-setting =
         let (rs, y, e) = planned-parts (gx .plan) tape start (x .ran-to) in
         record {
-          one-setting = exactly-up (bits-smallest M (s .positive (v .range)) (s .word (v .range)) .holds) (below y) (one y (fits-split (c .draws n) (reads-fit y)));
+          one-setting = exactly-up (bits-smallest M (s .range .positive (v .range)) (s .range .word (v .range)) .holds) (below y) (one y (fits-split (c .draws n) (reads-fit y)));
           nothing-else = λ us w. anew-is marks (n - 1) M y are-closing us w;
           still-words = λ us w. anew-word marks (n - 1) M y are-closing us w;
         }

@@ -5,7 +5,6 @@ use Prim.Native.Nat.{ℕ, _+_, _-_, _*_, _/_, _%_, _^_}
 use native.Mathlib.Nat.{div-le-self}
 use native.Mathlib.Omega.{arith}
 use lib.ListN.{length, length-append, length-replicate}
-use lib.Pow.{pow-pos, pow-mono}
 use Rattle.numbers.specs.Lists.{sum}
 use Rattle.draws.proofs.PlanLaws.{gives-map}
 use Rattle.shares.specs.Sharing.{arithmetic}
@@ -17,14 +16,13 @@ use Rattle.shift.proofs.FloorLaws.{shift-floor, shift-draws}
 use Rattle.shift.proofs.BooleanLaws.{to-boolean-keeps}
 use Rattle.gate.specs.Told.{standsFor, silent}
 use Rattle.gate.specs.Gadget.{silentSteps, tells}
-use Rattle.gate.proofs.CheckLaws.{inside-yes, inside-out}
 use Rattle.gadgets.specs.Shift.{shiftGadget, toBooleanGadget}
 use Rattle.gadgets.proofs.RangeLaws.{shift-range-in, shift-range-out, whole-power}
 use Rattle.demands.specs.Claim.{plan}
 use Rattle.demands.specs.Demands.{Demands}
 use Rattle.demands.specs.Unique.{Unique}
 use Rattle.demands.specs.Shift.{shiftClaim, toBooleanClaim}
-use Rattle.demands.proofs.Steps.{Steps}
+use Rattle.demands.proofs.Steps.{width-range, Steps}
 use Rattle.demands.proofs.Demands.{demands}
 use Rattle.demands.proofs.Unique.{unique}
 
@@ -32,10 +30,13 @@ shift-steps : (M t : ℕ) → Steps (shiftClaim M t)
 unfolding shiftGadget silentSteps
 shift-steps M t =
     record {
-      in-range = shift-range-out M t;
-      range-in = shift-range-in M t;
-      positive = λ r. omega (arith, r .3);
-      word = λ r. omega (arith, r .0, div-le-self M (2 ^ t));
+      range =
+          record {
+            in-range = shift-range-out M t;
+            range-in = shift-range-in M t;
+            positive = λ r. omega (arith, r .3);
+            word = λ r. omega (arith, r .0, div-le-self M (2 ^ t));
+          };
       opens-fields = λ x. refl;
       give = λ r n least most xs w.
           gives-map _ silent
@@ -48,10 +49,7 @@ to-boolean-steps : (k : ℕ) → Steps (toBooleanClaim k)
 unfolding toBooleanGadget silentSteps
 to-boolean-steps k =
     record {
-      in-range = inside-out 1 31 k;
-      range-in = λ r. inside-yes 1 31 k (r .0) (r .1);
-      positive = λ r. pow-pos k;
-      word = λ r. pow-mono {i = k} {j = 32} (omega (arith, r .1));
+      range = width-range k;
       opens-fields = λ x. refl;
       give = λ r n least most xs w.
           gives-map _ silent (to-boolean-keeps k n (sum xs % 2 ^ k) xs (r .0) (omega arith) (record { words = w; is = refl }))

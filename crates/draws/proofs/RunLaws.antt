@@ -14,6 +14,12 @@ unfolding bind
 bind-assoc (done a) f g = refl
 bind-assoc (draw M k) f g = ap (draw M) (fun-ext (λ r. bind-assoc (k r) f g))
 
+-- nothing follows
+pub bind-done : {A : Type 0} (d : Draws A) → bind d (λ a. done a) ≡ d
+unfolding bind
+bind-done (done a) = refl
+bind-done (draw M k) = ap (draw M) (fun-ext (λ r. bind-done (k r)))
+
 -- a program after another, run: the one and then the other
 pub run-bind : {A B : Type 0} (d : Draws A) (f : A → Draws B) (tape : List ℕ) (p : Cursor) →
     run (bind d f) tape p ≡ next (run d tape p) (λ a q. run (f a) tape q)

@@ -6,6 +6,7 @@ use Prim.Native.Nat.{ℕ, _≤_}
 use native.Mathlib.Omega.{arith}
 use lib.ListN.{length, take}
 use borrow.Author.Tests.{eq-eqb, ne-eqb}
+use Rattle.numbers.specs.Lists.{Words}
 use Rattle.tape.specs.declared.Cursor.{Cursor}
 use Rattle.tape.specs.Tape.{Ran, ended, ran, start}
 use Rattle.draws.specs.Draws.{Draws, done, bind, after, next, run}
@@ -82,11 +83,15 @@ pub closed-on-copy : (d : List ℕ → Draws (List ℕ)) (output : Sharing) {sha
 closed-on-copy d output {shares} tape {r = r} w e f g h =
     ap (λ (n : ℕ). shared n r) e ∙ h .is ∙ ap (λ x. next x (λ xs p. run (refresh output xs) tape p)) (on-copy d tape w refl f g) ∙ sym (run-bind (d shares) (refresh output) tape start)
 
--- the copied shares, below M where no check failed
+-- as many words as there are shares, where no check failed
+held-all : {shares words : List ℕ} {room : ℕ} {inRange : Bool} {M N : ℕ} → Passed shares room inRange M → 2 ≤ N → Words 8 N words → Held 8 (length shares) N words
+held-all p two w = record { least = p .least; most = p .most; two = two; all = w }
+
+-- the copied shares, below M
 pub held : {shares words : List ℕ} {room : ℕ} {inRange : Bool} {M : ℕ} → Passed shares room inRange M → 2 ≤ M → Copied shares words → Held 8 (length shares) M words
-held {M = M} p two w = record { least = p .least; most = p .most; two = two; all = w .rest M (omega arith) (p .below) }
+held {M = M} p two w = held-all p two (w .rest M (omega arith) (p .below))
 
 -- and what the steps gave of them, below N
 pub held-given : {shares : List ℕ} {room : ℕ} {inRange : Bool} {M N : ℕ} {s : Shared} {x : Ran (List ℕ)} → Passed shares room inRange M → 2 ≤ N →
     Gave (length shares) N s x → s .ok ≡ true → Held 8 (length shares) N (s .words)
-held-given p two g t = record { least = p .least; most = p .most; two = two; all = g .below t }
+held-given p two g t = held-all p two (g .below t)

@@ -13,7 +13,7 @@ ghost use Rattle.shares.specs.Arrays.{Held, Gave};
 ghost use Rattle.halving.specs.Halving.{join, sharedParity};
 ghost use Rattle.halving.specs.AtOnce.{signed, joined};
 
-// A word with the sign that a parity asks for. Chosen word by word: a branch on a parity would be mispredicted every other time.
+// A word with the sign that a parity asks for.
 fn signed(p: u32, x: u32, modulus: u32) -> u32
     requires { ⌜ x < modulus ⌝ }
     ensures { λ r. ⌜ r ≡ signed modulus p x ⌝ }

@@ -20,8 +20,10 @@ use Rattle.draws.proofs.RunLaws.{run-done, bind-ran, bind-ended}
 use Rattle.shares.specs.declared.Shared.{Shared}
 use Rattle.shares.specs.Arrays.{Held, Gave}
 use Rattle.shares.proofs.ArraysLaws.{held-below, gave}
-use Rattle.halving.specs.Halving.{parity, halving}
+use Rattle.halving.specs.Halving.{parity}
+use Rattle.shift.specs.Shift.{shift}
 use Rattle.shift.specs.ToBoolean.{withBit, bitsFrom, toBoolean}
+use Rattle.shift.proofs.ShiftLaws.{shift-one}
 
 -- bit b put onto a word below 2^b
 bit-below : (b x y : ℕ) → x < 2 ^ b → x + 2 ^ b * parity y < 2 ^ suc b
@@ -80,21 +82,24 @@ module _ {n k : ℕ} {tape : List ℕ} {x : Ran (List ℕ)} {b : ℕ} {words res
 
   -- a bit that another follows, and the modulus between them
   module _ (h : b < k - 1) {half : ℕ} (is : half ≡ 2 ^ (k - 1 - b)) where
-    pub building-held : Held 8 n (2 * half) rest
+    pub building-held : Held 8 n (2 ^ 1 * half) rest
     building-held = let e : k - b ≡ suc (k - 1 - b) = omega arith in subst (λ (j : ℕ). Held 8 n j rest) (rw (e, is, pow-suc) (omega arith)) (a .held)
 
-    pub building-small : k ≤ 31 → half ≤ 2147483647
+    pub building-two : 2 ≤ half
+    building-two = rw is (pow-mono {i = 1} {j = k - 1 - b} (omega arith))
+
+    pub building-small : k ≤ 31 → 2 ^ 1 * half < 2 ^ 32
     building-small l = let z : 2 ^ (k - 1 - b) ≤ 2 ^ 30 = pow-mono {i = k - 1 - b} {j = 30} (omega arith) in omega (arith, is)
 
     parts : bitsFrom b (k - 1 - b) (take n rest) (take n words)
-        ≡ bind (halving half (take n rest)) (λ zs. bitsFrom (suc b) (k - 1 - (b + 1)) zs (withBit b (take n rest) (take n words)))
+        ≡ bind (shift half 1 (take n rest)) (λ zs. bitsFrom (suc b) (k - 1 - (b + 1)) zs (withBit b (take n rest) (take n words)))
     unfolding bitsFrom
-    parts = let e : k - 1 - b ≡ suc (k - 1 - (b + 1)) = omega arith in rw (is, e)
+    parts = let e : k - 1 - b ≡ suc (k - 1 - (b + 1)) = omega arith in rw (shift-one half (take n rest), is, e)
 
-    pub building-ended : run (halving half (take n rest)) tape p ≡ ended → ended ≡ x
-    building-ended e = sym (rw parts (bind-ended (halving half (take n rest)) _ tape p e)) ∙ a .same
+    pub building-ended : run (shift half 1 (take n rest)) tape p ≡ ended → ended ≡ x
+    building-ended e = sym (rw parts (bind-ended (shift half 1 (take n rest)) _ tape p e)) ∙ a .same
 
-    pub building-more : {r : Shared} {more : List ℕ} → Gave n half r (run (halving half (take n rest)) tape p) → not (r .ok) ≡ false →
+    pub building-more : {r : Shared} {more : List ℕ} → Gave n half r (run (shift half 1 (take n rest)) tape p) → not (r .ok) ≡ false →
         more ≡ withBit b rest words → Building n k tape x (b + 1) more (r .words) (r .cursor)
     building-more {r} {more} g ok f =
         let e : half ≡ 2 ^ (k - (b + 1)) = let d : k - 1 - b ≡ k - (b + 1) = omega arith in is ∙ ap (λ (j : ℕ). 2 ^ j) d in
@@ -106,5 +111,5 @@ module _ {n k : ℕ} {tape : List ℕ} {x : Ran (List ℕ)} {b : ℕ} {words res
           same =
               ap (λ (l : List ℕ). run (bitsFrom (b + 1) (k - 1 - (b + 1)) (take n (r .words)) l) tape (r .cursor)) (ap (take n) f ∙ with-bit-take b n rest words)
               ∙ ap (λ (j : ℕ). run (bitsFrom j (k - 1 - (b + 1)) (take n (r .words)) (withBit b (take n rest) (take n words))) tape (r .cursor)) (add-one b)
-              ∙ sym (rw parts (bind-ran (halving half (take n rest)) _ tape p (take n (r .words)) (r .cursor) (gave g ok))) ∙ a .same;
+              ∙ sym (rw parts (bind-ran (shift half 1 (take n rest)) _ tape p (take n (r .words)) (r .cursor) (gave g ok))) ∙ a .same;
         }

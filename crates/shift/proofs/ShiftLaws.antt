@@ -12,12 +12,17 @@ use Rattle.numbers.specs.Lists.{Words}
 use Rattle.tape.specs.declared.Cursor.{Cursor}
 use Rattle.tape.specs.Tape.{Ran, ended, ran}
 use Rattle.draws.specs.Draws.{bind, run}
-use Rattle.draws.proofs.RunLaws.{run-done, bind-ran, bind-ended}
+use Rattle.draws.proofs.RunLaws.{bind-done, run-done, bind-ran, bind-ended}
 use Rattle.shares.specs.declared.Shared.{Shared}
 use Rattle.shares.specs.Arrays.{Held, Gave}
 use Rattle.shares.proofs.ArraysLaws.{held-below, gave}
 use Rattle.halving.specs.Halving.{halving}
 use Rattle.shift.specs.Shift.{shift}
+
+-- a shift by 1 is one halving
+pub shift-one : (m : ℕ) (xs : List ℕ) → shift m 1 xs ≡ halving m xs
+unfolding shift
+shift-one m xs = let e : 2 ^ 0 * m ≡ m = one-mul m in bind-done (halving (2 ^ 0 * m) xs) ∙ ap (λ (k : ℕ). halving k xs) e
 
 -- i of t halvings are made: those that are left give the same as all of them
 pub record Shifting (n m t : ℕ) (tape : List ℕ) (x : Ran (List ℕ)) (i : ℕ) (words : List ℕ) (modulus : ℕ) (p : Cursor) : Type 0 where

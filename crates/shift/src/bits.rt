@@ -1,5 +1,5 @@
 // Arithmetic shares mod 2^k to Boolean shares of width k.
-use halving::halve;
+use super::halvings::shift_by;
 use shares::Shared;
 use tape::Cursor;
 use words::power;
@@ -24,6 +24,8 @@ fn with_bit(words: [u32; 8], shares: [u32; 8], b: u32) -> [u32; 8]
     out
 }
 
+// The halving between bits is a shift by 1. So `halve` has one caller, and the compiler can take it into that loop; called from two places, it
+// made a shift of two shares take twice the time.
 pub fn to_boolean(shares: [u32; 8], n: usize, k: u32, cursor: Cursor, tape: &[u32]) -> Shared
     requires { ⌜ (1 ≤ k) × (k ≤ 31) × Held 8 n (2 ^ k) shares ⌝ }
     ensures { λ r. ⌜ Gave n (2 ^ k) r (run (toBoolean k (take n shares)) (now (tape .entry)) cursor) ⌝ }
@@ -33,7 +35,7 @@ pub fn to_boolean(shares: [u32; 8], n: usize, k: u32, cursor: Cursor, tape: &[u3
     let mut cur = cursor;
     for b in 0..k - 1 {
         let more = with_bit(words, rest, b);
-        let s = halve(rest, n, power(k - 1 - b), cur, tape);
+        let s = shift_by(rest, n, power(k - 1 - b), 1, cur, tape);
         if !s.ok {
             return Shared::ended();
         }

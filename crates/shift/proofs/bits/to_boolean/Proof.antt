@@ -6,7 +6,7 @@ use lib.ListN.{take}
 use Rattle.draws.specs.Draws.{run}
 use Rattle.shares.proofs.ArraysLaws.{stopped, whole, cut-off}
 use Rattle.shift.specs.ToBoolean.{toBoolean}
-use Rattle.shift.proofs.BitLaws.{Building, building-start, building-done, building-words, building-bits, building-held, building-small, building-ended, building-more}
+use Rattle.shift.proofs.BitLaws.{Building, building-start, building-done, building-words, building-bits, building-held, building-two, building-small, building-ended, building-more}
 use Rattle.shift.proofs.bits.to_boolean.Statement.{statement}
 use Rattle.shift.proofs.bits.to_boolean.Tie as tie
 
@@ -34,11 +34,12 @@ sub-power-2 c = search needs
 power-requires : tie.Need-power-requires Inv-loop μ-loop
 power-requires c κs = search needs
 
-halve-requires : tie.Need-halve-requires Inv-loop μ-loop
-halve-requires c κs = let w = c .before in
+shift-by-requires : tie.Need-shift-by-requires Inv-loop μ-loop
+shift-by-requires c κs = let w = c .before in
     let l = w .before .before .loop .inv in
     let h = w .before .loop-test .taken in
-    (building-held l h (c .power .ensures), building-small l h (c .power .ensures) (w .before .before .before .before .pre .1))
+    let e = c .power .ensures in
+    (omega arith, building-two l h e, building-small l h e (w .before .before .before .before .pre .1), building-held l h e)
 
 ended-requires : tie.Need-ended-requires Inv-loop μ-loop
 ended-requires c κs = search needs
@@ -47,7 +48,7 @@ returns : tie.Need-returns Inv-loop μ-loop
 returns c = let t = c .before in
     let h = t .before .before in
     let w = h .before .before in
-    cut-off (c .ended .ensures) (building-ended (w .before .before .loop .inv) (w .before .loop-test .taken) (h .before .power .ensures) (stopped (h .halve .ensures) (t .if1 .taken)))
+    cut-off (c .ended .ensures) (building-ended (w .before .before .loop .inv) (w .before .loop-test .taken) (h .before .power .ensures) (stopped (h .shift-by .ensures) (t .if1 .taken)))
 
 add-b : tie.Need-add-b Inv-loop μ-loop
 add-b c = search needs
@@ -59,7 +60,7 @@ loop-again : tie.Need-loop-again Inv-loop μ-loop
 loop-again c = let e = c .before .before in
     let h = e .before .before in
     let w = h .before .before in
-    building-more (w .before .before .loop .inv) (w .before .loop-test .taken) (h .before .power .ensures) (h .halve .ensures) (e .if1 .left) (w .with-bit .ensures)
+    building-more (w .before .before .loop .inv) (w .before .loop-test .taken) (h .before .power .ensures) (h .shift-by .ensures) (e .if1 .left) (w .with-bit .ensures)
 
 sub-with-bit : tie.Need-sub-with-bit Inv-loop μ-loop
 sub-with-bit c = search needs
@@ -84,7 +85,7 @@ to-boolean-spec =
     sub-power
     sub-power-2
     power-requires
-    halve-requires
+    shift-by-requires
     ended-requires
     returns
     add-b
