@@ -13,7 +13,9 @@ use gadgets::Answer;
 use gadgets::refresh;
 use gadgets::refresh_boolean;
 use gadgets::shift;
+use gadgets::to_arithmetic;
 use gadgets::to_boolean;
+use gadgets::to_mod_q;
 
 pub const ROUNDS: u32 = 600;
 
@@ -22,7 +24,9 @@ pub fn name(gadget: u32) -> bool {
         1 => io::write_all(1, b"refresh"),
         2 => io::write_all(1, b"refresh_boolean"),
         3 => io::write_all(1, b"shift"),
-        _ => io::write_all(1, b"to_boolean"),
+        4 => io::write_all(1, b"to_boolean"),
+        5 => io::write_all(1, b"to_arithmetic"),
+        _ => io::write_all(1, b"to_mod_q"),
     }
 }
 
@@ -31,7 +35,9 @@ pub fn call(gadget: u32, shares: &[u32], tape: &[u32], p: Pair, out: &mut [u32])
         1 => refresh(shares, tape, p.first, out),
         2 => refresh_boolean(shares, tape, p.first, out),
         3 => shift(shares, tape, p.first, p.second, out),
-        _ => to_boolean(shares, tape, p.first, out),
+        4 => to_boolean(shares, tape, p.first, out),
+        5 => to_arithmetic(shares, tape, p.first, out),
+        _ => to_mod_q(shares, tape, p.first, out),
     }
 }
 
@@ -57,20 +63,43 @@ fn lent(
     noted(t, told, out)
 }
 
-// The call with the whole tape; and if it used words, with just those, with one fewer, and with half of them.
-// With one fewer only the closing refresh ends; with half, the steps before it can.
-fn four_times(t: Tally, gadget: u32, shares: &[u32], tape: &[u32], p: Pair, room: usize) -> Tally {
+// One call, on the tape's first words.
+fn cut(
+    t: Tally,
+    gadget: u32,
+    shares: &[u32],
+    tape: &[u32],
+    words: usize,
+    p: Pair,
+    room: usize,
+) -> Tally {
+    if tape.len() < words {
+        return t;
+    }
+    once(t, gadget, shares, &tape[..words], p, room)
+}
+
+// The difference, or 0 if there is none.
+fn less(x: usize, y: usize) -> usize {
+    if x < y {
+        return 0;
+    }
+    x - y
+}
+
+// The call with the whole tape; and if it used words, with just those, with one fewer, with as many fewer as there are shares,
+// and with half of them. With one fewer the closing refresh meets the end; with still fewer, the steps before it can.
+fn five_times(t: Tally, gadget: u32, shares: &[u32], tape: &[u32], p: Pair, room: usize) -> Tally {
     let first = once(t, gadget, shares, tape, p, room);
     let used = first.used;
     if used == 0 {
         return first;
     }
-    if tape.len() < used {
-        return first;
-    }
-    let second = once(first, gadget, shares, &tape[..used], p, room);
-    let third = once(second, gadget, shares, &tape[..used - 1], p, room);
-    once(third, gadget, shares, &tape[..used / 2], p, room)
+    let second = cut(first, gadget, shares, tape, used, p, room);
+    let third = cut(second, gadget, shares, tape, used - 1, p, room);
+    let fewer = less(used, shares.len());
+    let fourth = cut(third, gadget, shares, tape, fewer, p, room);
+    cut(fourth, gadget, shares, tape, used / 2, p, room)
 }
 
 // One round on a tape and shares of the right lengths, which it fills.
@@ -78,7 +107,7 @@ fn filled(t: Tally, gadget: u32, r: u32, tape: &mut [u32], shares: &mut [u32]) -
     let x = fill(tape, 0, mix(mix(gadget, low(shares.len())), r));
     let p = parameters(gadget, r, x);
     fill_shares(gadget, shares, bound(gadget, p.first), r, x);
-    four_times(t, gadget, shares, tape, p, room_for(shares.len(), r))
+    five_times(t, gadget, shares, tape, p, room_for(shares.len(), r))
 }
 
 fn round(t: Tally, gadget: u32, n: usize, r: u32, shares: &mut [u32]) -> Tally {

@@ -56,6 +56,7 @@ fn by_hand() {
     on_two(3, &[7, 8], &[12, 3, 6, 4], Pair::of(10, 1));
     on_two(3, &[7, 8], &[12, 3, 6], Pair::of(10, 1));
     on_two(4, &[6, 7], &[0, 0, 3], Pair::of(3, 0));
+    on_two(5, &[6, 3], &[1, 2, 7], Pair::of(4, 0));
 }
 
 fn line(gadget: u32, n: usize) {
@@ -76,7 +77,7 @@ fn lines(gadget: u32) {
 
 fn main() {
     by_hand();
-    for gadget in 1..5 {
+    for gadget in 1..7 {
         lines(gadget);
     }
 }

@@ -32,9 +32,22 @@ fn width(r: u32, x: u32) -> u32 {
         1 => 31,
         2 => 8,
         3 => 23,
-        4 => x % 31 + 1,
+        4 => (r / 8 + 1) % 31 + 1,
         5 => x % 31 + 1,
         6 => r / 8 % 2 * 32,
+        _ => x,
+    }
+}
+
+fn mu(r: u32, x: u32) -> u32 {
+    match r % 8 {
+        0 => 1,
+        1 => 20,
+        2 => 18,
+        3 => r / 8 % 2 * 21,
+        4 => r / 8 % 20 + 1,
+        5 => x % 20 + 1,
+        6 => x % 20 + 1,
         _ => x,
     }
 }
@@ -61,6 +74,7 @@ pub fn parameters(gadget: u32, r: u32, x: u32) -> Pair {
     match gadget {
         1 => Pair::of(modulus(r, x), 0),
         3 => modulus_and_t(r, x),
+        6 => Pair::of(mu(r, x), 0),
         _ => Pair::of(width(r, x), 0),
     }
 }

@@ -37,15 +37,31 @@ fn minus(x: u32, y: u32, m: u32) -> u32 {
     }
 }
 
+// Whether a gadget's shares recombine by exclusive or.
+fn boolean(gadget: u32) -> bool {
+    match gadget {
+        2 | 5 | 6 => true,
+        _ => false,
+    }
+}
+
+// What a share leaves of a value.
+fn without(gadget: u32, x: u32, share: u32, m: u32) -> u32 {
+    if boolean(gadget) {
+        return x ^ share;
+    }
+    minus(x, share, m)
+}
+
 // The last share becomes what the others leave of the value.
-fn complete(shares: &mut [u32], value: u32, m: u32) {
+fn complete(gadget: u32, shares: &mut [u32], value: u32, m: u32) {
     if shares.len() == 0 {
         return;
     }
     let last = shares.len() - 1;
     let mut left = value;
     for i in 0..last {
-        left = minus(left, shares[i], m);
+        left = without(gadget, left, shares[i], m);
     }
     shares[last] = left;
 }
@@ -59,14 +75,11 @@ fn value(largest: u32, r: u32) -> u32 {
     }
 }
 
-// In every third round arithmetic shares have such a value.
+// In every third round the shares have such a value.
 fn aim(gadget: u32, shares: &mut [u32], m: u32, r: u32) {
-    if gadget == 2 {
-        return;
-    }
     if r % 3 == 1 {
         if 2 <= m {
-            complete(shares, value(m - 1, r), m);
+            complete(gadget, shares, value(m - 1, r), m);
         }
     }
 }

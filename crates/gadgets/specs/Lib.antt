@@ -1,2 +1,3 @@
 pub mod Refresh
 pub mod Shift
+pub mod Convert

@@ -1,7 +1,10 @@
 // The public gadgets. None has a `requires`: bad arguments are refused by number, and a refusal leaves the output slice as it was.
+mod conversions;
 mod refreshes;
 mod shifts;
 
+pub use conversions::to_arithmetic;
+pub use conversions::to_mod_q;
 pub use gate::Answer;
 pub use refreshes::refresh;
 pub use refreshes::refresh_boolean;

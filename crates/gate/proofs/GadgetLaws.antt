@@ -14,12 +14,11 @@ use Rattle.draws.proofs.RunLaws.{bind-assoc, run-bind}
 use Rattle.shares.specs.Sharing.{Sharing, bound}
 use Rattle.shares.specs.Refresh.{refresh}
 use Rattle.shares.specs.declared.Shared.{Shared}
-use Rattle.shares.specs.Arrays.{Held, shared, Gave}
+use Rattle.shares.specs.Arrays.{Held, Copied, shared, Gave}
 use Rattle.gate.specs.Checks.{firstFailing, checks}
 use Rattle.gate.specs.declared.Answer.{Answer}
 use Rattle.gate.specs.Told.{Told, refusal, silent, silentRan, ranTold, standsFor}
 use Rattle.gate.specs.Gadget.{Gadget, silentSteps, silentGadget, closed, checkNumber, tells}
-use Rattle.gate.specs.Copied.{Copied}
 use Rattle.gate.proofs.CheckLaws.{Passed}
 
 module _ (g : Gadget) (shares tape out : List ℕ) where
@@ -73,12 +72,12 @@ module _ (inRange : Bool) (input output : Sharing) (steps : List ℕ → Draws (
 
 -- steps that ran on the copied shares from the tape's start ran on the shares
 pub on-copy : (d : List ℕ → Draws (List ℕ)) {shares words : List ℕ} (tape : List ℕ) {room M : ℕ} {c : Cursor} {s : Shared} →
-    Copied shares words → room ≡ length shares → c ≡ start → Gave (length shares) M s (run (d (take (length shares) words)) tape c) → shared room s ≡ run (d shares) tape start
+    Copied 8 shares words → room ≡ length shares → c ≡ start → Gave (length shares) M s (run (d (take (length shares) words)) tape c) → shared room s ≡ run (d shares) tape start
 on-copy d tape {s = s} w e f g = ap (λ (n : ℕ). shared n s) e ∙ g .is ∙ ap₂ (λ (xs : List ℕ) (p : Cursor). run (d xs) tape p) (w .first) f
 
 -- and so did the closing refresh after them
 pub closed-on-copy : (d : List ℕ → Draws (List ℕ)) (output : Sharing) {shares words : List ℕ} (tape : List ℕ) {room M N : ℕ} {c : Cursor} {s r : Shared} →
-    Copied shares words → room ≡ length shares → c ≡ start → Gave (length shares) M s (run (d (take (length shares) words)) tape c) →
+    Copied 8 shares words → room ≡ length shares → c ≡ start → Gave (length shares) M s (run (d (take (length shares) words)) tape c) →
     Gave (length shares) N r (next (shared (length shares) s) (λ xs p. run (refresh output xs) tape p)) → shared room r ≡ run (bind (d shares) (refresh output)) tape start
 closed-on-copy d output {shares} tape {r = r} w e f g h =
     ap (λ (n : ℕ). shared n r) e ∙ h .is ∙ ap (λ x. next x (λ xs p. run (refresh output xs) tape p)) (on-copy d tape w refl f g) ∙ sym (run-bind (d shares) (refresh output) tape start)
@@ -88,7 +87,7 @@ held-all : {shares words : List ℕ} {room : ℕ} {inRange : Bool} {M N : ℕ} �
 held-all p two w = record { least = p .least; most = p .most; two = two; all = w }
 
 -- the copied shares, below M
-pub held : {shares words : List ℕ} {room : ℕ} {inRange : Bool} {M : ℕ} → Passed shares room inRange M → 2 ≤ M → Copied shares words → Held 8 (length shares) M words
+pub held : {shares words : List ℕ} {room : ℕ} {inRange : Bool} {M : ℕ} → Passed shares room inRange M → 2 ≤ M → Copied 8 shares words → Held 8 (length shares) M words
 held {M = M} p two w = held-all p two (w .rest M (omega arith) (p .below))
 
 -- and what the steps gave of them, below N

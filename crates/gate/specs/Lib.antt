@@ -1,4 +1,3 @@
 pub mod Checks
 pub mod Told
 pub mod Gadget
-pub mod Copied

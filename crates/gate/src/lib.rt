@@ -5,10 +5,9 @@ ghost use mathlib.Core.Path.{_≡_};
 ghost use mathlib.Core.List.{List};
 ghost use Prim.Native.Nat.{ℕ, _%_, _^_, _≤_};
 ghost use lib.ListN.{length, take};
-ghost use Rattle.shares.specs.Arrays.{shared};
+ghost use Rattle.shares.specs.Arrays.{Copied, shared};
 ghost use Rattle.gate.specs.Checks.{inside, allBelow, firstFailing, checks};
 ghost use Rattle.gate.specs.Told.{refusal, silentRan, ranTold, standsFor};
-ghost use Rattle.gate.specs.Copied.{Copied};
 
 // What a caller gets back: 0, or the number of a refusal; and how many tape words were read, 0 in a refusal.
 pub struct Answer {
@@ -68,7 +67,7 @@ pub fn first_failing(shares: &[u32], room: usize, in_range: bool, m: u32) -> u32
 
 pub fn copy_in(shares: &[u32]) -> [u32; 8]
     requires { ⌜ length (now shares) ≤ 8 ⌝ }
-    ensures { λ r. ⌜ Copied (now (shares .entry)) r ⌝ }
+    ensures { λ r. ⌜ Copied 8 (now (shares .entry)) r ⌝ }
 {
     let mut words = [0u32; 8];
     let mut i = 0;

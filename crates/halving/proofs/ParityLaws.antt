@@ -13,7 +13,7 @@ use Rattle.numbers.specs.Modulo.{addMod, negMod}
 use Rattle.numbers.specs.Lists.{Words, change, along}
 use Rattle.numbers.proofs.GroupLaws.{sums}
 use Rattle.numbers.proofs.WordsLaws.{words-at, words-same, take-replicate, words-change, length-change, change-here, change-other}
-use Rattle.numbers.proofs.AlongLaws.{length-along, along-at, along-is, take-along, words-along}
+use Rattle.numbers.proofs.AlongLaws.{along-is, change-first, take-along, words-along}
 use Rattle.tape.specs.declared.Cursor.{Cursor}
 use Rattle.tape.specs.Tape.{Ran, ended, ran}
 use Rattle.draws.specs.Draws.{each, run}
@@ -54,15 +54,7 @@ module _ (M p : ℕ) where
 
   -- and both at once
   pub join-is : (xs : List ℕ) → join M p xs ≡ along (joined M p) xs
-  join-is xs =
-      join-signed xs ∙ along-is (joined M p) xs _ (length-change _ 0 (along (λ i x. signed M p x) xs) ∙ length-along _ xs) at
-    where
-      at : (j : ℕ) → j < length xs → getD (change (λ a. addMod M a p) 0 (along (λ i x. signed M p x) xs)) j 0 ≡ joined M p j (getD xs j 0)
-      at zero l =
-          change-here (λ a. addMod M a p) 0 (along (λ i x. signed M p x) xs) (omega (arith, length-along (λ i x. signed M p x) xs))
-          ∙ ap (λ a. addMod M a p) (along-at (λ i x. signed M p x) xs 0 l)
-      at (suc j) l =
-          rw (ne-eqb (suc j) 0 (omega arith)) (change-other (λ a. addMod M a p) 0 (along (λ i x. signed M p x) xs) (suc j) (omega arith) ∙ along-at (λ i x. signed M p x) xs (suc j) l)
+  join-is xs = join-signed xs ∙ change-first (λ a. addMod M a p) (λ i x. signed M p x) xs
 
   pub join-words : {n : ℕ} {xs : List ℕ} → 2 ≤ M → p < 2 → Words n M xs → Words n M (join M p xs)
   join-words {xs = xs} two h w =

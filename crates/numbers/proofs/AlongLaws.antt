@@ -1,14 +1,18 @@
 -- Laws of a change along a list, of a loop that makes it word by word, and of loops that are counted.
-use mathlib.Core.Path.{_≡_, refl, sym, ap, _∙_}
+use mathlib.Core.Path.{_≡_, refl, sym, ap, subst, _∙_}
 use mathlib.Core.List.{List, [], _∷_}
 use Prim.Native.Nat.{ℕ, zero, suc, _+_, _≤_, _<_}
 use native.Mathlib.Nat.{le-of-suc-le-suc, not-suc-le-zero}
 use native.Mathlib.Numerals.{add-one}
 use native.Mathlib.Omega.{arith}
-use native.Mathlib.Decide.{ℕ-discrete}
+use native.Mathlib.Decide.{decLt, ℕ-discrete}
 use lib.ListN.{length, getD, set, take, length-set, length-take}
-use lib.Seq.{getD-set-same, getD-set-other, getD-take, ext-getD}
-use Rattle.numbers.specs.Lists.{Words, along, over}
+use lib.Seq.{length-take-le, getD-set-same, getD-set-other, getD-take, ext-getD}
+use lib.Dec.{eqb}
+use borrow.Author.Tests.{ne-eqb}
+use Rattle.numbers.specs.Tests.{pick}
+use Rattle.numbers.specs.Lists.{Words, change, along, over}
+use Rattle.numbers.proofs.WordsLaws.{length-change, change-here, change-other}
 
 pub length-along : (f : ℕ → ℕ → ℕ) (xs : List ℕ) → length (along f xs) ≡ length xs
 unfolding along
@@ -26,6 +30,9 @@ pub along-is : (f : ℕ → ℕ → ℕ) (xs ys : List ℕ) → length ys ≡ le
 along-is f xs ys e h =
     ext-getD 0 ys (along f xs) (e ∙ sym (length-along f xs)) (λ j l. let k : j < length xs = omega arith in h j k ∙ sym (along-at f xs j k))
 
+pub along-same : (f g : ℕ → ℕ → ℕ) (xs : List ℕ) → ((j : ℕ) → j < length xs → f j (getD xs j 0) ≡ g j (getD xs j 0)) → along f xs ≡ along g xs
+along-same f g xs h = along-is g xs (along f xs) (length-along f xs) (λ j l. along-at f xs j l ∙ h j l)
+
 -- the first n words; there, another function with the same words will do
 pub take-along : (f g : ℕ → ℕ → ℕ) (n : ℕ) (xs : List ℕ) → ((i x : ℕ) → i < n → f i x ≡ g i x) → take n (along f xs) ≡ along g (take n xs)
 take-along f g n xs same =
@@ -35,6 +42,14 @@ take-along f g n xs same =
   where
     sizes : length (along f xs) ≡ length xs → length (take n (along f xs)) ≡ length (take n xs)
     sizes e = length-take n (along f xs) ∙ rw e (sym (length-take n xs))
+
+-- a change at the first place, in the same pass
+pub change-first : (h : ℕ → ℕ) (f : ℕ → ℕ → ℕ) (xs : List ℕ) → change h 0 (along f xs) ≡ along (λ i x. pick (eqb i 0) (h (f i x)) (f i x)) xs
+change-first h f xs = along-is _ xs (change h 0 (along f xs)) (length-change h 0 (along f xs) ∙ length-along f xs) at
+  where
+    at : (j : ℕ) → j < length xs → getD (change h 0 (along f xs)) j 0 ≡ pick (eqb j 0) (h (f j (getD xs j 0))) (f j (getD xs j 0))
+    at zero l = change-here h 0 (along f xs) (omega (arith, length-along f xs)) ∙ ap h (along-at f xs 0 l)
+    at (suc j) l = rw (ne-eqb (suc j) 0 (omega arith)) (change-other h 0 (along f xs) (suc j) (omega arith) ∙ along-at f xs (suc j) l)
 
 pub words-along : {n M N : ℕ} (f : ℕ → ℕ → ℕ) {xs : List ℕ} → Words n M xs → ((i x : ℕ) → i < n → x < M → f i x < N) → Words n N (along f xs)
 words-along f {xs} w h =
@@ -77,6 +92,22 @@ module _ {size : ℕ} {f : ℕ → ℕ → ℕ} {xs : List ℕ} {i : ℕ} {ys : 
   -- the end of the loop
   pub along-all : size ≤ i → ys ≡ along f xs
   along-all h = along-is f xs ys (a .kept ∙ sym (a .whole)) (λ j l. a .before j (omega (arith, a .whole)))
+
+  -- and of one that stops at i
+  pub along-front : take i ys ≡ along f (take i xs)
+  along-front =
+      let ly : length (take i ys) ≡ i = length-take-le i ys (omega (arith, a .most, a .kept)) in
+      let lx : length (take i xs) ≡ i = length-take-le i xs (omega (arith, a .most, a .whole)) in
+      along-is f (take i xs) (take i ys) (ly ∙ sym lx)
+      (λ j l. let h : j < i = omega arith in getD-take i ys j 0 h ∙ a .before j h ∙ ap (f j) (sym (getD-take i xs j 0 h)))
+
+  -- words below M, if f keeps them so
+  pub along-below : {M : ℕ} → Words size M xs → ((j x : ℕ) → x < M → f j x < M) → Words size M ys
+  along-below {M} w keeps = record { size = a .kept; below = λ j l. go j l (decLt j i) }
+    where
+      go : (j : ℕ) → j < size → Dec (j < i) → getD ys j 0 < M
+      go j l (yes h) = subst (λ (x : ℕ). x < M) (sym (a .before j h)) (keeps j (getD xs j 0) (w .below j l))
+      go j l (no n) = subst (λ (x : ℕ). x < M) (sym (a .since j (omega (arith, n)))) (w .below j l)
 
 -- ---- one turn more
 pub over-more : {A : Type 0} (f : ℕ → A → A) (i : ℕ) (a : A) → over f (i + 1) a ≡ f i (over f i a)

@@ -1,12 +1,13 @@
 -- Laws of lists of words below M.
-use mathlib.Core.Path.{_≡_, refl, sym, ap, _∙_}
-use mathlib.Core.List.{List, [], _∷_}
-use Prim.Native.Nat.{ℕ, zero, suc, _≤_, _<_, suc-le-suc}
+use mathlib.Core.Path.{_≡_, refl, sym, ap, subst, _∙_}
+use mathlib.Core.List.{List, [], _∷_, _++_}
+use Prim.Native.Nat.{ℕ, zero, suc, _+_, _≤_, _<_, suc-le-suc}
 use native.Mathlib.Nat.{le-of-suc-le-suc}
+use native.Mathlib.Numerals.{add-one}
 use native.Mathlib.Omega.{arith}
 use native.Mathlib.Decide.{decLt, ℕ-discrete}
-use lib.ListN.{length, getD, set, take, replicate, length-set, length-replicate, getD-replicate, List·getD-eq-default}
-use lib.Seq.{getD-set-same, getD-set-other, getD-take, take-set-lt}
+use lib.ListN.{length, getD, set, take, drop, replicate, length-set, length-replicate, getD-replicate, List·getD-eq-default}
+use lib.Seq.{length-take-le, take-nil, getD-set-same, getD-set-other, getD-take, take-set-lt, take-suc, take-suc-set}
 use Rattle.numbers.specs.Lists.{Words, change}
 
 pub words-head : {k M x : ℕ} {xs : List ℕ} → Words (suc k) M (x ∷ xs) → x < M
@@ -21,6 +22,15 @@ words-cons {k} {M} {x} {xs} h w = record { size = ap suc (w .size); below = go }
     go : (i : ℕ) → i < suc k → getD (x ∷ xs) i 0 < M
     go zero l = h
     go (suc i) l = w .below i (le-of-suc-le-suc l)
+
+-- the first n of them, and all but the first
+pub words-take : {m M : ℕ} {xs : List ℕ} (n : ℕ) → n ≤ m → Words m M xs → Words n M (take n xs)
+words-take {M = M} {xs} n h w =
+    record { size = length-take-le n xs (omega (arith, w .size)); below = λ i l. subst (λ (x : ℕ). x < M) (sym (getD-take n xs i 0 l)) (w .below i (omega arith)) }
+
+pub words-drop : {n M : ℕ} {xs : List ℕ} → Words (suc n) M xs → Words n M (drop 1 xs)
+words-drop {xs = []} w = absurd (let e : 0 ≡ suc _ = w .size in omega arith)
+words-drop {xs = x ∷ xs} w = words-tail w
 
 -- past its end a list reads 0
 pub words-at : {n M : ℕ} {xs : List ℕ} → 0 < M → Words n M xs → (i : ℕ) → getD xs i 0 < M
@@ -88,3 +98,13 @@ take-change f n i xs h = take-set-lt n xs i (f (getD xs i 0)) h ∙ ap (λ (x : 
 pub words-change : {n M : ℕ} {xs : List ℕ} (f : ℕ → ℕ) (i : ℕ) → Words n M xs → f (getD xs i 0) < M → Words n M (change f i xs)
 unfolding change
 words-change f i w h = words-set w i h
+
+-- the first n of all but the first
+pub take-rest : (n : ℕ) (xs : List ℕ) → take n (drop 1 xs) ≡ drop 1 (take (suc n) xs)
+take-rest n [] = take-nil n
+take-rest n (x ∷ xs) = refl
+
+-- a list copied from the front: one word more
+pub copy-more : (xs ws : List ℕ) (i : ℕ) → i < length xs → i < length ws → take i ws ≡ take i xs → take (i + 1) (set ws i (getD xs i 0)) ≡ take (i + 1) xs
+copy-more xs ws i h l e =
+    rw add-one (take-suc-set ws i (getD xs i 0) l ∙ ap (λ (x : List ℕ). x ++ (getD xs i 0 ∷ [])) e ∙ sym (take-suc xs i 0 h))

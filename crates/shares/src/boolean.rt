@@ -1,8 +1,9 @@
-// Boolean refresh of width k, with the last share in a local as in the refresh mod m.
+// Boolean refresh of width k of at most eight shares, as the one on nine words does it.
 use super::Shared;
+use super::nine::narrowed;
+use super::nine::refresh_nine;
+use super::nine::widened;
 use tape::Cursor;
-use tape::Draw;
-use words::power;
 ghost use Prim.Native.Nat.{_^_, _≤_};
 ghost use lib.ListN.{take};
 ghost use Rattle.draws.specs.Draws.{run};
@@ -14,23 +15,15 @@ pub fn refresh_boolean(shares: [u32; 8], n: usize, k: u32, cursor: Cursor, tape:
     requires { ⌜ (k ≤ 31) × Held 8 n (2 ^ k) shares ⌝ }
     ensures { λ r. ⌜ Gave n (2 ^ k) r (run (refresh (boolean k) (take n shares)) (now (tape .entry)) cursor) ⌝ }
 {
-    let m = power(k);
-    let mut words = shares;
-    let mut cur = cursor;
-    let last = n - 1;
-    let mut last_share = words[last];
-    for i in 0..last {
-        let Draw::Got(r, next) = cur.draw(tape, m) else {
-            return Shared::ended();
-        };
-        words[i] = words[i] ^ r;
-        last_share = last_share ^ r;
-        cur = next;
+    let s = refresh_nine(widened(shares), n, k, cursor, tape);
+    if !s.ok {
+        return Shared::ended();
     }
-    words[last] = last_share;
+    let nine = s.words;
+    let c = s.cursor;
     Shared {
-        words,
-        cursor: cur,
+        words: narrowed(nine),
+        cursor: c,
         ok: true,
     }
 }

@@ -2,11 +2,14 @@
 mod arithmetic;
 mod boolean;
 mod closing;
+mod nine;
 
 pub use arithmetic::refresh;
 pub use boolean::refresh_boolean;
 pub use closing::close;
 pub use closing::close_boolean;
+pub use nine::refresh_nine;
+pub use nine::widened;
 use tape::Cursor;
 ghost use mathlib.Core.Path.{_≡_};
 ghost use mathlib.Core.Bool.{false};
@@ -18,6 +21,13 @@ pub struct Shared {
     pub ok: bool,
 }
 
+// The same with nine words, which only Boolean to arithmetic needs.
+pub struct SharedNine {
+    pub words: [u32; 9],
+    pub cursor: Cursor,
+    pub ok: bool,
+}
+
 impl Shared {
     // The tape has ended. No share is handed on, half refreshed or not.
     pub fn ended() -> Self
@@ -25,6 +35,18 @@ impl Shared {
     {
         Shared {
             words: [0u32; 8],
+            cursor: Cursor::start(),
+            ok: false,
+        }
+    }
+}
+
+impl SharedNine {
+    pub fn ended() -> Self
+        ensures { λ r. ⌜ r .ok ≡ false ⌝ }
+    {
+        SharedNine {
+            words: [0u32; 9],
             cursor: Cursor::start(),
             ok: false,
         }

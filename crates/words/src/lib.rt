@@ -37,6 +37,30 @@ pub fn reduce_q(x: u64) -> u32
     (x % (Q as u64)) as u32
 }
 
+// The remainder, a binary digit at a time from the top, for a modulus that is not a constant: slow, but with no divide.
+fn reduce_by_digits(x: u64, m: u32) -> u32
+    requires { ⌜ 2 ≤ m ⌝ }
+    ensures { λ r. ⌜ r ≡ x % m ⌝ }
+{
+    let mut r = 0u32;
+    for i in 0..64u32 {
+        let digit = ((x >> (63 - i)) % 2) as u32;
+        r = add_mod(add_mod(r, r, m), digit, m);
+    }
+    r
+}
+
+// The remainder by any modulus. One that matters for speed has a line of its own, where the divisor is a constant.
+pub fn reduce(x: u64, m: u32) -> u32
+    requires { ⌜ 2 ≤ m ⌝ }
+    ensures { λ r. ⌜ r ≡ x % m ⌝ }
+{
+    if m == Q {
+        return reduce_q(x);
+    }
+    reduce_by_digits(x, m)
+}
+
 // L: how many bits a draw below m has.
 pub fn bits(m: u32) -> u32
     requires { ⌜ 2 ≤ m ⌝ }

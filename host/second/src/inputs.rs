@@ -37,7 +37,7 @@ pub const REFRESH_BOOLEAN: Gadget = Gadget {
     id: 2,
     name: "refresh_boolean",
     parameters: width,
-    bound: |k| 1 << (k % 32),
+    bound: power,
     arithmetic: false,
     call: |shares, tape, (k, _), room| library::refresh_boolean(shares, tape, k, room),
 };
@@ -55,12 +55,30 @@ pub const TO_BOOLEAN: Gadget = Gadget {
     id: 4,
     name: "to_boolean",
     parameters: width,
-    bound: |k| 1 << (k % 32),
+    bound: power,
     arithmetic: true,
     call: |shares, tape, (k, _), room| library::to_boolean(shares, tape, k, room),
 };
 
-pub const GADGETS: [Gadget; 4] = [REFRESH, REFRESH_BOOLEAN, SHIFT, TO_BOOLEAN];
+pub const TO_ARITHMETIC: Gadget = Gadget {
+    id: 5,
+    name: "to_arithmetic",
+    parameters: width,
+    bound: power,
+    arithmetic: false,
+    call: |shares, tape, (k, _), room| library::to_arithmetic(shares, tape, k, room),
+};
+
+pub const TO_MOD_Q: Gadget = Gadget {
+    id: 6,
+    name: "to_mod_q",
+    parameters: narrow_width,
+    bound: power,
+    arithmetic: false,
+    call: |shares, tape, (mu, _), room| library::to_mod_q(shares, tape, mu, room),
+};
+
+pub const GADGETS: [Gadget; 6] = [REFRESH, REFRESH_BOOLEAN, SHIFT, TO_BOOLEAN, TO_ARITHMETIC, TO_MOD_Q];
 
 /// Document 01's cases by hand.
 pub fn by_hand() -> Vec<(Gadget, Input)> {
@@ -72,6 +90,7 @@ pub fn by_hand() -> Vec<(Gadget, Input)> {
         case(SHIFT, [7, 8], (10, 1), &[12, 3, 6, 4]),
         case(SHIFT, [7, 8], (10, 1), &[12, 3, 6]),
         case(TO_BOOLEAN, [6, 7], (3, 0), &[0, 0, 3]),
+        case(TO_ARITHMETIC, [6, 3], (4, 0), &[1, 2, 7]),
     ]
 }
 
@@ -94,7 +113,17 @@ fn modulus(round: u32, x: u32) -> Pair {
 }
 
 fn width(round: u32, x: u32) -> Pair {
-    ([1, 31, 8, 23, x % 31 + 1, x % 31 + 1, round / 8 % 2 * 32, x][round as usize % 8], 0)
+    ([1, 31, 8, 23, (round / 8 + 1) % 31 + 1, x % 31 + 1, round / 8 % 2 * 32, x][round as usize % 8], 0)
+}
+
+/// The widths μ.
+fn narrow_width(round: u32, x: u32) -> Pair {
+    let any = x % 20 + 1;
+    ([1, 20, 18, round / 8 % 2 * 21, round / 8 % 20 + 1, any, any, x][round as usize % 8], 0)
+}
+
+fn power(k: u32) -> u32 {
+    1 << (k % 32)
 }
 
 fn modulus_and_t(round: u32, x: u32) -> Pair {
@@ -111,16 +140,25 @@ fn modulus_and_t(round: u32, x: u32) -> Pair {
     ][round as usize % 8]
 }
 
-/// Replaces the last share, so that the sum is 0, 1 or the largest value.
-fn aim(shares: &mut [u32], bound: u32, round: u32) {
-    if let Some((last, others)) = shares.split_last_mut() {
-        let value = [0, 1, bound - 1][round as usize / 3 % 3];
-        let left = others.iter().fold(i128::from(value), |left, &share| left - i128::from(share));
-        *last = left.rem_euclid(i128::from(bound)) as u32;
-    }
+/// What the other shares leave of the value to the last one.
+fn left_of_sum(value: u32, others: &[u32], bound: u32) -> u32 {
+    let left = others.iter().fold(i128::from(value), |left, &share| left - i128::from(share));
+    left.rem_euclid(i128::from(bound)) as u32
+}
+
+fn left_of_xor(value: u32, others: &[u32]) -> u32 {
+    others.iter().fold(value, |left, share| left ^ share)
 }
 
 impl Gadget {
+    /// Replaces the last share, so that the shares recombine to 0, 1 or the largest value.
+    fn aim(&self, shares: &mut [u32], bound: u32, round: u32) {
+        if let Some((last, others)) = shares.split_last_mut() {
+            let value = [0, 1, bound - 1][round as usize / 3 % 3];
+            *last = if self.arithmetic { left_of_sum(value, others, bound) } else { left_of_xor(value, others) };
+        }
+    }
+
     pub fn input(&self, n: usize, round: u32) -> Input {
         let seed = mix(mix(self.id, n as u32), round);
         let tape: Vec<u32> = words_after(seed).take(TAPE).collect();
@@ -128,8 +166,8 @@ impl Gadget {
         let parameters = (self.parameters)(round, x);
         let bound = (self.bound)(parameters.0);
         let mut shares: Vec<u32> = words_after(x).take(n).map(|w| w.checked_rem(bound).unwrap_or(w)).collect();
-        if self.arithmetic && bound >= 2 && round % 3 == 1 {
-            aim(&mut shares, bound, round);
+        if bound >= 2 && round % 3 == 1 {
+            self.aim(&mut shares, bound, round);
         }
         if round % 5 == 4 {
             shares.iter_mut().take(1).for_each(|share| *share = bound);

@@ -1,11 +1,15 @@
 //! An independent second of the library, written from document 01: it makes the calls that docs/CASES.md lists and prints the
 //! lines that the program `cases` has to print.
 
+mod conversions;
 mod inputs;
 mod library;
+mod steps;
+mod tape;
 
 use inputs::{Gadget, Input};
-use library::{Answer, Tape};
+use library::Answer;
+use tape::Tape;
 
 struct Tally {
     counts: [u32; 6],
@@ -46,7 +50,7 @@ fn line(gadget: &Gadget, n: usize) {
         let input = gadget.input(n, round);
         let used = call(gadget, &input, input.tape.len(), &mut tally);
         if used > 0 {
-            for words in [used, used - 1, used / 2] {
+            for words in [used, used - 1, used.saturating_sub(n), used / 2] {
                 call(gadget, &input, words, &mut tally);
             }
         }
@@ -56,7 +60,7 @@ fn line(gadget: &Gadget, n: usize) {
 
 fn draw_line(words: &[u32]) {
     let mut tape = Tape::new(words);
-    match tape.draw(library::Q) {
+    match tape.draw(conversions::Q) {
         Some(number) => println!("draw {} {}", number, tape.used()),
         None => println!("draw ended"),
     }

@@ -4,10 +4,10 @@ use Rattle.cases.proofs.main.Statement.{statement}
 use Rattle.cases.proofs.main.Tie as tie
 
 abbrev Inv-loop : tie.InvT-loop
-Inv-loop gadget₀ gadget = gadget ≤ 5
+Inv-loop gadget₀ gadget = gadget ≤ 7
 
 abbrev μ-loop : tie.MeasureT-loop
-μ-loop gadget₀ gadget = 5 - gadget
+μ-loop gadget₀ gadget = 7 - gadget
 
 by-hand-requires : tie.Need-by-hand-requires Inv-loop μ-loop
 by-hand-requires c κs = search needs

@@ -6,20 +6,19 @@ use native.Mathlib.Omega.{arith}
 use lib.ListN.{length, take, length-set}
 use lib.Seq.{take-length}
 use Rattle.numbers.specs.Lists.{Words}
-use Rattle.numbers.proofs.WordsLaws.{words-at, words-set, words-same}
-use Rattle.gate.proofs.CopyLaws.{copy-more}
+use Rattle.numbers.proofs.WordsLaws.{copy-more, words-at, words-set, words-same}
 use Rattle.gate.proofs.copy_in.Statement.{statement}
 use Rattle.gate.proofs.copy_in.Tie as tie
+use Rattle.shares.proofs.ArraysLaws.{Copying, copying-start, copying-more, copying-all}
 
 abbrev Inv-loop : tie.InvT-loop
-Inv-loop shares words₀ i₀ words i =
-    (i ≤ length shares) × (length words ≡ 8) × (take i words ≡ take i shares) × ((M : ℕ) → 0 < M → Words (length shares) M shares → Words 8 M words)
+Inv-loop shares words₀ i₀ words i = Copying 8 shares i words
 
 abbrev μ-loop : tie.MeasureT-loop
 μ-loop shares words₀ i₀ words i = length shares - i
 
 loop-holds : tie.Need-loop-holds Inv-loop μ-loop
-loop-holds c = (search needs, search needs, refl, λ M h w. words-same h)
+loop-holds c = copying-start _ (search needs)
 
 mul-words : tie.Need-mul-words Inv-loop μ-loop
 mul-words c = search needs
@@ -40,19 +39,10 @@ loop-less : tie.Need-loop-less Inv-loop μ-loop
 loop-less c = search needs
 
 loop-again : tie.Need-loop-again Inv-loop μ-loop
-loop-again c =
-    let l = c .before .before .loop .inv in (
-      omega arith,
-      simp length-set (l .1),
-      copy-more _ _ _ (c .before .loop-test .taken) (omega arith) (l .2),
-      λ M h w. words-set (l .3 M h w) _ (words-at h w _),
-    )
+loop-again c = copying-more (c .before .before .loop .inv) (c .before .loop-test .taken) refl
 
 returns : tie.Need-returns Inv-loop μ-loop
-returns c =
-    let l = c .before .loop .inv in
-    let e = le-antisymm (l .0) (c .loop-test .left) in
-    record { first = rw (← e) (l .2 ∙ rw e (take-length _)); rest = l .3 }
+returns c = copying-all (c .before .loop .inv) (c .loop-test .left)
 
 pub copy-in-spec : {M : Type 1} → statement M
 copy-in-spec =

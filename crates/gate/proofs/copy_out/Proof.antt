@@ -4,7 +4,7 @@ use Prim.Native.Nat.{_-_, _≤_}
 use native.Mathlib.Omega.{arith}
 use lib.ListN.{length, take, length-set}
 use lib.Seq.{take-all}
-use Rattle.gate.proofs.CopyLaws.{copy-more}
+use Rattle.numbers.proofs.WordsLaws.{copy-more}
 use Rattle.gate.proofs.copy_out.Statement.{statement}
 use Rattle.gate.proofs.copy_out.Tie as tie
 

@@ -5,10 +5,10 @@ use Rattle.cases.proofs.shares.complete.Statement.{statement}
 use Rattle.cases.proofs.shares.complete.Tie as tie
 
 abbrev Inv-loop : tie.InvT-loop
-Inv-loop shares value m last left₀ i₀ left i = (last < length shares) × (i ≤ last)
+Inv-loop gadget shares value m last left₀ i₀ left i = (last < length shares) × (i ≤ last)
 
 abbrev μ-loop : tie.MeasureT-loop
-μ-loop shares value m last left₀ i₀ left i = last - i
+μ-loop gadget shares value m last left₀ i₀ left i = last - i
 
 returns : tie.Need-returns Inv-loop μ-loop
 returns c = search needs
@@ -19,14 +19,14 @@ sub-last c = search needs
 loop-holds : tie.Need-loop-holds Inv-loop μ-loop
 loop-holds c = search needs
 
-mul-minus : tie.Need-mul-minus Inv-loop μ-loop
-mul-minus c = search needs
+mul-without : tie.Need-mul-without Inv-loop μ-loop
+mul-without c = search needs
 
-slice-read-minus : tie.Need-slice-read-minus Inv-loop μ-loop
-slice-read-minus c = search needs
+slice-read-without : tie.Need-slice-read-without Inv-loop μ-loop
+slice-read-without c = search needs
 
-minus-requires : tie.Need-minus-requires Inv-loop μ-loop
-minus-requires c κs = search needs
+without-requires : tie.Need-without-requires Inv-loop μ-loop
+without-requires c κs = search needs
 
 add-i : tie.Need-add-i Inv-loop μ-loop
 add-i c = search needs
@@ -58,9 +58,9 @@ complete-spec =
     returns
     sub-last
     loop-holds
-    mul-minus
-    slice-read-minus
-    minus-requires
+    mul-without
+    slice-read-without
+    without-requires
     add-i
     loop-less
     loop-again

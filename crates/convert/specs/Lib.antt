@@ -1,0 +1,2 @@
+pub mod ToArithmetic
+pub mod AtOnce

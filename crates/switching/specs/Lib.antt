@@ -1,0 +1,2 @@
+pub mod Switching
+pub mod ToModulus

@@ -1,0 +1,24 @@
+-- Modulus switching, in the steps that the conversion to mod q, widening and Decompose have in common (document 01, "Steps").
+use mathlib.Core.List.{List}
+use Prim.Native.Nat.{ℕ, _-_, _*_, _/_, _%_, _^_}
+use lib.ListN.{length, getD}
+use Rattle.numbers.specs.Modulo.{addMod, subMod}
+use Rattle.numbers.specs.Lists.{change, along}
+use Rattle.draws.specs.Draws.{Draws}
+use Rattle.shift.specs.Shift.{shift}
+
+-- floor(x·c/p) mod M, of each share x
+unfoldable pub floors : ℕ → ℕ → ℕ → List ℕ → List ℕ
+floors M c p xs = along (λ i x. x * c / p % M) xs
+
+-- n - 1 added to the first share
+unfoldable pub raised : ℕ → List ℕ → List ℕ
+raised M xs = change (λ x. addMod M x (length xs - 1)) 0 xs
+
+-- the floors, with n - 1 added to the first, shifted by t from 2^t·m to m
+unfoldable pub carries : (m t c p : ℕ) → List ℕ → Draws (List ℕ)
+carries m t c p xs = shift m t (raised (2 ^ t * m) (floors (2 ^ t * m) c p xs))
+
+-- share i is x_i − c·e_i mod M
+unfoldable pub without : ℕ → ℕ → List ℕ → List ℕ → List ℕ
+without M c es xs = along (λ i x. subMod M x (c * getD es i 0)) xs

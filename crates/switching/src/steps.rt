@@ -1,0 +1,57 @@
+// The steps of modulus switching. The maps go over all eight words.
+use shares::Shared;
+use shift::shift_by;
+use tape::Cursor;
+use words::add_mod;
+use words::power;
+use words::reduce;
+ghost use mathlib.Core.Path.{_≡_};
+ghost use Prim.Native.Nat.{_*_, _/_, _^_, _≤_, _<_};
+ghost use lib.ListN.{take};
+ghost use Rattle.numbers.specs.Modulo.{subMod};
+ghost use Rattle.numbers.specs.Lists.{Words, along};
+ghost use Rattle.draws.specs.Draws.{run};
+ghost use Rattle.shares.specs.Arrays.{Held, Gave};
+ghost use Rattle.shift.specs.Shift.{shift};
+ghost use Rattle.switching.specs.Switching.{raised, without};
+
+// floor(x / 2^mu) of each word: it is far below the modulus of the shift, so nothing is reduced.
+pub fn floors(shares: [u32; 8], mu: u32) -> [u32; 8]
+    requires { ⌜ mu ≤ 31 ⌝ }
+    ensures { λ r. ⌜ r ≡ along (λ i x. x / 2 ^ mu) shares ⌝ }
+{
+    let mut words = shares;
+    for i in 0..8 {
+        words[i] = words[i] >> mu;
+    }
+    words
+}
+
+// n - 1 added to the first of the floors, and the shift by t, from 2^t·m to m.
+pub fn carries(floors: [u32; 8], n: usize, m: u32, t: u32, cursor: Cursor, tape: &[u32]) -> Shared
+    requires { ⌜ (t ≤ 31) × (2 ≤ m) × (2 ^ t * m < 2 ^ 32) × (n ≤ 2 ^ t * m) × Held 8 n (2 ^ t * m) floors ⌝ }
+    ensures { λ r. ⌜ Gave n m r (run (shift m t (raised (2 ^ t * m) (take n floors))) (now (tape .entry)) cursor) ⌝ }
+{
+    let mut words = floors;
+    words[0] = add_mod(words[0], (n - 1) as u32, power(t) * m);
+    shift_by(words, n, m, t, cursor, tape)
+}
+
+// x − 2^k·e mod m. 2^k·(m − e) is added instead, so that nothing falls below 0.
+fn less(x: u32, e: u32, k: u32, m: u32) -> u32
+    requires { ⌜ (k ≤ 31) × (2 ≤ m) × (e < m) ⌝ }
+    ensures { λ r. ⌜ r ≡ subMod m x (2 ^ k * e) ⌝ }
+{
+    reduce(x as u64 + power(k) as u64 * (m - e) as u64, m)
+}
+
+pub fn without(shares: [u32; 8], e: [u32; 8], k: u32, m: u32) -> [u32; 8]
+    requires { ⌜ (k ≤ 31) × (2 ≤ m) × Words 8 m e ⌝ }
+    ensures { λ r. ⌜ r ≡ without m (2 ^ k) e shares ⌝ }
+{
+    let mut words = shares;
+    for i in 0..8 {
+        words[i] = less(words[i], e[i], k, m);
+    }
+    words
+}
