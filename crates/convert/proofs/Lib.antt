@@ -1,2 +1,4 @@
 pub mod ListLaws
 pub mod RuleLaws
+pub mod PsiLaws
+pub mod ValueLaws

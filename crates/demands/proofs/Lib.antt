@@ -7,5 +7,6 @@ pub mod Demands
 pub mod Unique
 pub mod Refresh
 pub mod Shift
+pub mod Convert
 pub mod Cases
 pub mod Worked

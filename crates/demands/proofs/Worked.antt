@@ -11,13 +11,15 @@ use Rattle.shares.specs.Refresh.{turn, refresh}
 use Rattle.halving.specs.Halving.{negated, join, joinTurn, sharedParity, less, moveParity, evened, halves, halving}
 use Rattle.shift.specs.Shift.{shift}
 use Rattle.shift.specs.ToBoolean.{withBit, bitsFrom, toBoolean}
+use Rattle.convert.specs.ToArithmetic.{psi, psis, zOf, added, rule, toArithmetic}
 use Rattle.gate.specs.Checks.{inside, allBelow, firstFailing, checks}
 use Rattle.gate.specs.Told.{refusal, ranTold}
 use Rattle.gate.specs.Gadget.{silentSteps, closed, checkNumber, tells}
 use Rattle.gadgets.specs.Shift.{shiftRange, shiftGadget, toBooleanGadget}
+use Rattle.gadgets.specs.Convert.{toArithmeticGadget, toModQGadget}
 use Rattle.gadgets.specs.Refresh.{refreshGadget, booleanGadget}
 use Rattle.demands.specs.Worked.{Worked}
 
 pub worked : Worked
-unfolding leadingZeros addMod subMod negMod xor bitsOf change along over lowBits drawFrom drawAt after next run bind turns each move turn refresh negated join joinTurn sharedParity less moveParity evened halves halving shift withBit bitsFrom toBoolean inside allBelow firstFailing checks refusal ranTold silentSteps closed checkNumber tells shiftRange shiftGadget toBooleanGadget refreshGadget booleanGadget
+unfolding leadingZeros addMod subMod negMod xor bitsOf change along over lowBits drawFrom drawAt after next run bind turns each move turn refresh negated join joinTurn sharedParity less moveParity evened halves halving shift withBit bitsFrom toBoolean psi psis zOf added rule toArithmetic inside allBelow firstFailing checks refusal ranTold silentSteps closed checkNumber tells shiftRange shiftGadget toBooleanGadget toArithmeticGadget toModQGadget refreshGadget booleanGadget
 worked = record { refreshed = refl; refreshed-boolean = refl; shifted = refl; made-boolean = refl; short = refl }

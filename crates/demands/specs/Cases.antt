@@ -6,7 +6,9 @@ use Rattle.numbers.specs.Modulo.{q}
 use Rattle.tape.specs.Tape.{start, ran, drawAt}
 use Rattle.gate.specs.Told.{Told}
 use Rattle.gate.specs.Gadget.{tells}
+use Rattle.convert.specs.ToArithmetic.{psi}
 use Rattle.gadgets.specs.Shift.{shiftGadget, toBooleanGadget}
+use Rattle.gadgets.specs.Convert.{toArithmeticGadget}
 
 -- a call that succeeds with two shares
 abbrev shares : ℕ → ℕ → ℕ → Told
@@ -15,7 +17,9 @@ shares used x y = record { number = 0; opened = []; used = used; out = x ∷ y �
 pub record Cases : Type 0 where
   pub draw-skips : drawAt (8380417 ∷ 8380416 ∷ []) start q ≡ ran 8380416 (record { at = 2 })
   pub draw-cuts : drawAt (8388608 ∷ []) start q ≡ ran 0 (record { at = 1 })
+  pub psi-of : psi 4 5 3 ≡ 3
   pub shift-draws : tells (shiftGadget 10 1) (7 ∷ 8 ∷ []) (3 ∷ 4 ∷ []) (0 ∷ 0 ∷ []) ≡ shares 2 0 2
   pub shift-skips : tells (shiftGadget 10 1) (7 ∷ 8 ∷ []) (12 ∷ 3 ∷ 6 ∷ 4 ∷ []) (0 ∷ 0 ∷ []) ≡ shares 4 0 2
   pub shift-ends : tells (shiftGadget 10 1) (7 ∷ 8 ∷ []) (12 ∷ 3 ∷ 6 ∷ []) (0 ∷ 0 ∷ []) .number ≡ 5
+  pub to-arithmetic : tells (toArithmeticGadget 4) (6 ∷ 3 ∷ []) (1 ∷ 2 ∷ 7 ∷ []) (0 ∷ 0 ∷ []) ≡ shares 3 9 12
   pub to-boolean : tells (toBooleanGadget 3) (6 ∷ 7 ∷ []) (0 ∷ 0 ∷ 3 ∷ []) (0 ∷ 0 ∷ []) ≡ shares 3 7 2

@@ -6,5 +6,6 @@ pub mod Unique
 pub mod Demands
 pub mod Refresh
 pub mod Shift
+pub mod Convert
 pub mod Cases
 pub mod Worked

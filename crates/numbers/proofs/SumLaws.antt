@@ -1,13 +1,13 @@
 -- Laws of sums of words.
 use mathlib.Core.Path.{_≡_, refl}
-use mathlib.Core.List.{List, [], _∷_}
-use Prim.Native.Nat.{ℕ, zero, suc, _+_, _*_, _/_, _%_, _<_}
+use mathlib.Core.List.{List, [], _∷_, _++_}
+use Prim.Native.Nat.{ℕ, zero, suc, _+_, _*_, _/_, _%_, _≤_, _<_}
 use native.Mathlib.Omega.{arith}
-use native.Mathlib.Nat.{le-of-suc-le-suc}
+use native.Mathlib.Nat.{le-of-suc-le-suc, div-mul-le-self, lt-div-mul-add, div-lt-iff-lt-mul, le-div-iff-mul-le}
 use lib.ListN.{length, getD, take, replicate}
-use Rattle.numbers.specs.Modulo.{subMod, negMod}
+use Rattle.numbers.specs.Modulo.{addMod, subMod, negMod}
 use Rattle.numbers.specs.Lists.{fold, sum, along}
-use Rattle.numbers.proofs.Cong.{Cong, cong-eq, cong-refl, cong-add, via}
+use Rattle.numbers.proofs.Cong.{Cong, cong-eq, cong-mod, cong-refl, cong-add, via}
 use Rattle.numbers.proofs.GroupLaws.{sub-back}
 use Rattle.numbers.proofs.FoldLaws.{fold-zeros}
 
@@ -51,3 +51,45 @@ pub sum-halves : (xs : List ℕ) → ((j : ℕ) → j < length xs → getD xs j 
 unfolding along sum fold
 sum-halves [] h = refl
 sum-halves (x ∷ xs) h = omega (arith, sum-halves xs (λ j l. h (suc j) (omega arith)), h 0 (omega arith))
+
+pub sum-append : (xs ys : List ℕ) → sum (xs ++ ys) ≡ sum xs + sum ys
+unfolding sum fold
+sum-append [] ys = omega arith
+sum-append (x ∷ xs) ys = omega (arith, sum-append xs ys)
+
+-- another list added share by share
+pub sum-added : (M : ℕ) (xs ys : List ℕ) → length xs ≤ length ys → Cong M (sum (along (λ i x. addMod M x (getD ys i 0)) xs)) (sum xs + sum (take (length xs) ys))
+unfolding sum fold along addMod
+sum-added M [] ys h = cong-eq (omega arith)
+sum-added M (x ∷ xs) [] h = absurd (omega arith)
+sum-added M (x ∷ xs) (y ∷ ys) h = via (x + y + (sum xs + sum (take (length xs) ys))) (cong-add cong-mod (sum-added M xs ys (le-of-suc-le-suc h))) (cong-eq (omega arith))
+
+-- a multiple of each word
+pub sum-scaled : (c : ℕ) (xs : List ℕ) → sum (along (λ i x. c * x) xs) ≡ c * sum xs
+unfolding sum fold along
+sum-scaled c [] = omega arith
+sum-scaled c (x ∷ xs) = omega (arith, sum-scaled c xs)
+
+-- ---- floors: a sum of n floors loses less than n
+floor-low : (c p : ℕ) (xs : List ℕ) → sum (along (λ i x. x * c / p) xs) * p ≤ sum xs * c
+unfolding sum fold along
+floor-low c p [] = omega arith
+floor-low c p (x ∷ xs) = omega (arith, floor-low c p xs, div-mul-le-self (x * c) p)
+
+floor-high : (c p : ℕ) (xs : List ℕ) → 0 < p → sum xs * c + length xs ≤ sum (along (λ i x. x * c / p) xs) * p + length xs * p
+unfolding sum fold along
+floor-high c p [] h = omega arith
+floor-high c p (x ∷ xs) h = omega (arith, floor-high c p xs h, lt-div-mul-add {a = x * c} h)
+
+-- the floors of d + 1 numbers and d lie between the floor of the sum and that plus d
+pub record Between (low d x : ℕ) : Type 0 where
+  pub least : low ≤ x
+  pub most : x ≤ low + d
+
+pub floors-between : (c p d : ℕ) (xs : List ℕ) → 0 < p → length xs ≡ suc d → Between (sum xs * c / p) d (sum (along (λ i x. x * c / p) xs) + d)
+floors-between c p d xs h e =
+    let F : ℕ = sum (along (λ i x. x * c / p) xs) in
+    let high : sum xs * c + suc d ≤ F * p + suc d * p = rw e at (floor-high c p xs h) in
+    let below : sum xs * c / p < suc (F + d) = div-lt-iff-lt-mul h .1 (omega arith) in
+    let above : F ≤ sum xs * c / p = le-div-iff-mul-le h .1 (floor-low c p xs) in
+    record { least = omega arith; most = omega arith }

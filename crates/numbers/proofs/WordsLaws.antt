@@ -32,6 +32,14 @@ pub words-drop : {n M : ℕ} {xs : List ℕ} → Words (suc n) M xs → Words n 
 words-drop {xs = []} w = absurd (let e : 0 ≡ suc _ = w .size in omega arith)
 words-drop {xs = x ∷ xs} w = words-tail w
 
+pub words-append : {a b M : ℕ} (xs : List ℕ) {ys : List ℕ} → Words a M xs → Words b M ys → Words (a + b) M (xs ++ ys)
+words-append {a} {b} {M} [] {ys} w v = let none : b ≡ a + b = omega (arith, w .size) in subst (λ (n : ℕ). Words n M ys) none v
+words-append {a} {b} {M} (x ∷ xs) {ys} w v =
+    let one : a ≡ suc (length xs) = sym (w .size) in
+    let u : Words (suc (length xs)) M (x ∷ xs) = subst (λ (n : ℕ). Words n M (x ∷ xs)) one w in
+    let more : suc (length xs + b) ≡ a + b = omega arith in
+    subst (λ (n : ℕ). Words n M (x ∷ (xs ++ ys))) more (words-cons (words-head u) (words-append xs (words-tail u) v))
+
 -- past its end a list reads 0
 pub words-at : {n M : ℕ} {xs : List ℕ} → 0 < M → Words n M xs → (i : ℕ) → getD xs i 0 < M
 words-at {n} {M} {xs} h w i = go (decLt i n)

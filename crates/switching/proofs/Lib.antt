@@ -1,2 +1,4 @@
 pub mod StepLaws
 pub mod SwitchLaws
+pub mod CarryLaws
+pub mod ValueLaws

@@ -1,0 +1,89 @@
+-- Boolean to arithmetic, mod 2^k and mod q, meets the three demands, its answers are unique, and how many draws it makes.
+use mathlib.Core.Path.{_≡_, refl, subst, _∙_}
+use mathlib.Core.List.{List}
+use Prim.Native.Nat.{ℕ, suc, _+_, _-_, _*_, _%_, _^_, _≤_, _<_}
+use native.Mathlib.Nat.{mod-eq-of-lt, le-trans}
+use native.Mathlib.Omega.{arith}
+use lib.ListN.{length, length-append, length-replicate}
+use lib.Pow.{pow-pos, pow-mono}
+use Rattle.numbers.specs.Modulo.{q}
+use Rattle.numbers.specs.Bits.{alpha}
+use Rattle.numbers.specs.Lists.{xorAll}
+use Rattle.numbers.proofs.GroupLaws.{xors}
+use Rattle.numbers.proofs.FoldLaws.{fold-below}
+use Rattle.draws.proofs.PlanLaws.{gives-map}
+use Rattle.shares.specs.Refresh.{refreshPlan}
+use Rattle.shift.specs.Shift.{shiftPlan}
+use Rattle.shift.proofs.FloorLaws.{shift-draws}
+use Rattle.convert.specs.ToArithmetic.{toArithmeticPlan}
+use Rattle.convert.proofs.ValueLaws.{enough, to-arithmetic-keeps}
+use Rattle.switching.specs.ToModulus.{toModulusPlan}
+use Rattle.switching.proofs.ValueLaws.{to-modulus-keeps}
+use Rattle.gate.specs.Checks.{inside}
+use Rattle.gate.specs.Told.{standsFor, silent}
+use Rattle.gate.specs.Gadget.{silentSteps, tells}
+use Rattle.gate.proofs.CheckLaws.{inside-yes, inside-out}
+use Rattle.gadgets.specs.Convert.{toArithmeticGadget, toModQGadget}
+use Rattle.gadgets.proofs.RangeLaws.{alpha-most}
+use Rattle.demands.specs.Claim.{plan}
+use Rattle.demands.specs.Demands.{Demands}
+use Rattle.demands.specs.Unique.{Unique}
+use Rattle.demands.specs.Convert.{toArithmeticClaim, toModQClaim}
+use Rattle.demands.proofs.Steps.{width-range, Steps}
+use Rattle.demands.proofs.Demands.{demands}
+use Rattle.demands.proofs.Unique.{unique}
+
+to-arithmetic-steps : (k : ℕ) → Steps (toArithmeticClaim k)
+unfolding toArithmeticGadget silentSteps
+to-arithmetic-steps k =
+    record {
+      range = width-range k;
+      opens-fields = λ x. refl;
+      give = λ r n least most xs w.
+          gives-map _ silent (to-arithmetic-keeps k n (xorAll xs) xs (omega (arith, r .1)) (omega arith) (record { words = w; is = refl }))
+          (λ ys a. record { opened = refl; words = a .words; plain = a .is });
+    }
+
+to-mod-q-steps : (μ : ℕ) → Steps (toModQClaim μ)
+unfolding toModQGadget silentSteps xorAll
+to-mod-q-steps μ =
+    record {
+      range =
+          record {
+            in-range = inside-out 1 20 μ;
+            range-in = λ r. inside-yes 1 20 μ (r .0) (r .1);
+            positive = λ r. omega arith;
+            word = λ r. omega arith;
+          };
+      opens-fields = λ x. refl;
+      give = λ r n least most xs w.
+          let below : xorAll xs < 2 ^ μ = fold-below (xors μ) xs w in
+          let wide : 2 ^ μ ≤ 2 ^ 20 = pow-mono (r .1) in
+          gives-map _ silent (to-modulus-keeps q μ n (xorAll xs) xs (omega arith) (omega (arith, r .1, alpha-most n most)) (omega arith) (record { words = w; is = refl }))
+          (λ ys a. record { opened = refl; words = a .words; plain = a .is ∙ mod-eq-of-lt (omega arith) });
+    }
+
+pub to-arithmetic-demands : (k : ℕ) → Demands (toArithmeticClaim k)
+to-arithmetic-demands k = demands (to-arithmetic-steps k)
+
+pub to-mod-q-demands : (μ : ℕ) → Demands (toModQClaim μ)
+to-mod-q-demands μ = demands (to-mod-q-steps μ)
+
+pub to-arithmetic-unique : (k : ℕ) (shares tape out : List ℕ) → Unique standsFor (tells (toArithmeticGadget k) shares tape out)
+to-arithmetic-unique k = unique (toArithmeticGadget k)
+
+pub to-mod-q-unique : (μ : ℕ) (shares tape out : List ℕ) → Unique standsFor (tells (toModQGadget μ) shares tape out)
+to-mod-q-unique μ = unique (toModQGadget μ)
+
+-- 3·2^d − 3 draws a call, and with mod q α·d² more, for d = n - 1
+pub to-arithmetic-call-draws : (k n : ℕ) → 0 < n → length (plan (toArithmeticClaim k) n) ≡ 3 * 2 ^ (n - 1) - 3
+unfolding plan refreshPlan toArithmeticPlan
+to-arithmetic-call-draws k n h =
+    length-append (toArithmeticPlan k n) _ ∙ rw (length-replicate (3 * 2 ^ (n - 1) - n - 2) (2 ^ k), length-replicate (n - 1)) (omega (arith, enough (n - 1)))
+
+pub to-mod-q-call-draws : (μ n : ℕ) → 0 < n → length (plan (toModQClaim μ) n) ≡ 3 * 2 ^ (n - 1) - 3 + alpha n * ((n - 1) * (n - 1))
+unfolding plan refreshPlan toModulusPlan toArithmeticPlan
+to-mod-q-call-draws μ n h =
+    length-append (toModulusPlan q μ n) _
+    ∙ rw (length-append (toArithmeticPlan (μ + alpha n) n) (shiftPlan q (alpha n) n), shift-draws q (alpha n) n, length-replicate (3 * 2 ^ (n - 1) - n - 2) (2 ^ (μ + alpha n)), length-replicate (n - 1))
+    (omega (arith, enough (n - 1)))
