@@ -1,10 +1,11 @@
--- Calls worked by hand beyond document 01's table, where no case has three shares: they show the order of the shares, into which one a parity moves, and that the demands
--- speak of something.
+-- Calls worked by hand beyond document 01's table, where no case has three shares: they show the order of the shares, into which one a parity
+-- moves, where the results of U and Z go, and that the demands speak of something.
 use mathlib.Core.Path.{_≡_}
 use mathlib.Core.List.{[], _∷_}
 use Rattle.gate.specs.Gadget.{tells}
 use Rattle.gadgets.specs.Refresh.{refreshGadget, booleanGadget}
 use Rattle.gadgets.specs.Shift.{shiftGadget, toBooleanGadget}
+use Rattle.gadgets.specs.Convert.{toArithmeticGadget, toModQGadget}
 
 pub record Worked : Type 0 where
   -- of 12, 3, 6 the first word is skipped: 3 and 6 go into the first two shares and are taken from the third
@@ -19,5 +20,13 @@ pub record Worked : Type 0 where
   -- 5 + 1 + 1 is 7, and so is the exclusive or
   pub made-boolean : tells (toBooleanGadget 3) (5 ∷ 1 ∷ 1 ∷ []) (3 ∷ 3 ∷ 0 ∷ 3 ∷ 6 ∷ 1 ∷ 4 ∷ 1 ∷ 1 ∷ 0 ∷ []) (0 ∷ 0 ∷ 0 ∷ [])
       ≡ record { number = 0; opened = []; used = 10; out = 0 ∷ 5 ∷ 2 ∷ [] }
+  -- the exclusive or of 7, 7, 7, 3 is 4, and so is the sum mod 8. With four shares the rule begins with five, so x_1 goes into Z_1, and three levels show
+  -- where each result goes
+  pub made-arithmetic : tells (toArithmeticGadget 3) (7 ∷ 7 ∷ 7 ∷ 3 ∷ [])
+      (2 ∷ 7 ∷ 2 ∷ 1 ∷ 7 ∷ 4 ∷ 2 ∷ 1 ∷ 0 ∷ 6 ∷ 7 ∷ 2 ∷ 0 ∷ 1 ∷ 0 ∷ 0 ∷ 3 ∷ 3 ∷ 0 ∷ 7 ∷ 5 ∷ []) (0 ∷ 0 ∷ 0 ∷ 0 ∷ [])
+      ≡ record { number = 0; opened = []; used = 21; out = 7 ∷ 6 ∷ 0 ∷ 7 ∷ [] }
+  -- the exclusive or of 3, 1, 0 is 2, and so is the sum mod q. Seven draws are below 2^4, four below 4q, four below 2q, two below q
+  pub made-mod-q : tells (toModQGadget 2) (3 ∷ 1 ∷ 0 ∷ []) (17 ∷ 37 ∷ 19 ∷ 1 ∷ 13 ∷ 11 ∷ 25 ∷ 38 ∷ 41 ∷ 36 ∷ 6 ∷ 2 ∷ 9 ∷ 13 ∷ 28 ∷ 16 ∷ 0 ∷ []) (0 ∷ 0 ∷ 0 ∷ [])
+      ≡ record { number = 0; opened = []; used = 17; out = 8380017 ∷ 8379948 ∷ 871 ∷ [] }
   -- one word too few, and the output slice stays as it was
   pub short : tells (refreshGadget 10) (7 ∷ 8 ∷ 9 ∷ []) (12 ∷ 3 ∷ []) (1 ∷ 2 ∷ 3 ∷ []) ≡ record { number = 5; opened = []; used = 0; out = 1 ∷ 2 ∷ 3 ∷ [] }
