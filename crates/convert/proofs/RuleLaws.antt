@@ -9,7 +9,7 @@ use lib.ListN.{length, getD, set, take, drop, replicate, length-drop}
 use lib.Pow.{pow-pos}
 use lib.Seq.{getD-take, length-take-le, take-suc-set}
 use Rattle.numbers.specs.Modulo.{xor}
-use Rattle.numbers.specs.Lists.{Words, along}
+use Rattle.numbers.specs.Lists.{Words}
 use Rattle.numbers.proofs.XorLaws.{xor-below}
 use Rattle.numbers.proofs.WordsLaws.{words-cons, words-at, words-drop, words-set, words-same, take-rest}
 use Rattle.tape.specs.declared.Cursor.{Cursor}
@@ -23,10 +23,18 @@ use Rattle.shares.proofs.ArraysLaws.{held-at, held-of, copied-take, held-copied
 use Rattle.convert.specs.ToArithmetic.{zOf, added, rule, toArithmetic}
 use Rattle.convert.proofs.ListLaws.{z-take}
 
+-- two shares
+pub rule-two : {s : ℕ} (k : ℕ) {ws : List ℕ} (tape : List ℕ) (p : Cursor) → Held 9 s (2 ^ k) ws → s ≡ 2 → {v : ℕ} → v ≡ xor (getD ws 0 0) (getD ws 1 0) →
+    Given 8 (s - 1) (2 ^ k) true (v ∷ replicate 7 0) p (run (rule k (s - 2) (take s ws)) tape p)
+unfolding rule
+rule-two {s} k {ws} tape p a e {v} f =
+    let small : v < 2 ^ k = rw f (xor-below k _ _ (held-at a 0) (held-at a 1)) in
+    let both : v ≡ xor (getD (take 2 ws) 0 0) (getD (take 2 ws) 1 0) = f ∙ ap₂ xor (sym (getD-take 2 ws 0 0 (omega arith))) (sym (getD-take 2 ws 1 0 (omega arith))) in
+    whole refl (words-cons small (words-same (pow-pos k))) (rw e (ap (λ x. ran (x ∷ []) p) both ∙ sym (run-done _ tape p)))
+
 -- U and Z are held as the shares were
-module _ {s M : ℕ} {ws : List ℕ} (a : Held 9 s M ws) (big : 3 ≤ s) where
-  pub held-shorter : {others : List ℕ} → Words 9 M others → Held 9 (s - 1) M others
-  held-shorter w = record { least = omega arith; most = omega (arith, a .most); two = a .two; all = w }
+pub held-shorter : {s M : ℕ} {ws others : List ℕ} → Held 9 s M ws → 3 ≤ s → Words 9 M others → Held 9 (s - 1) M others
+held-shorter a big w = record { least = omega arith; most = omega (arith, a .most); two = a .two; all = w }
 
 pub u-words : {M : ℕ} {fresh u : List ℕ} → 0 < M → Words 9 M fresh → Copied 9 (drop 1 fresh) u → Words 9 M u
 u-words {M} {fresh} h w c =
@@ -47,13 +55,6 @@ module _ {s : ℕ} (k : ℕ) (big : 3 ≤ s) where
   rule-is : (xs : List ℕ) → rule k (s - 2) xs ≡ bind (refresh (boolean k) xs) after-refresh
   unfolding rule after-refresh after-u after-z
   rule-is xs = let e : s - 2 ≡ suc (s - 1 - 2) = omega arith in rw e
-
-  pair : (xs : List ℕ) → s ≡ 3 → (tape : List ℕ) (c : Cursor) → run (rule k (s - 1 - 2) (take (s - 1) xs)) tape c ≡ ran (xor (getD xs 0 0) (getD xs 1 0) ∷ []) c
-  unfolding rule
-  pair xs three tape c = rw three (run-done _ tape c ∙ ap₂ (λ x y. ran (xor x y ∷ []) c) (getD-take 2 xs 0 0 (omega arith)) (getD-take 2 xs 1 0 (omega arith)))
-
-  within : {xs : List ℕ} → Words 9 (2 ^ k) xs → xor (getD xs 0 0) (getD xs 1 0) < 2 ^ k
-  within w = xor-below k _ _ (words-at (pow-pos k) w 0) (words-at (pow-pos k) w 1)
 
   module _ (ws tape : List ℕ) (p : Cursor) where
     pub refresh-ended : run (refresh (boolean k) (take s ws)) tape p ≡ ended → ended ≡ run (rule k (s - 2) (take s ws)) tape p
@@ -85,7 +86,7 @@ module _ {s : ℕ} (k : ℕ) (big : 3 ≤ s) where
         module _ {z : List ℕ} (same : z ≡ zOf k s (getD fresh 0 0) u) where
           -- and Z
           z-is : take (s - 1) z ≡ zOf k (length (take s fresh)) (getD (take s fresh) 0 0) (drop 1 (take s fresh))
-          z-is = ap (take (s - 1)) same ∙ z-take (s - 1) k s (getD fresh 0 0) u ∙ rw (u-is, length-take-le s fresh (omega arith), getD-take s fresh 0 0 (omega arith))
+          z-is = ap (take (s - 1)) same ∙ z-take (s - 1) k s (getD fresh 0 0) u (omega arith) ∙ rw (u-is, length-take-le s fresh (omega arith), getD-take s fresh 0 0 (omega arith))
 
           on-z : {x : Ran (List ℕ)} → run (rule k (s - 1 - 2) (take (s - 1) z)) tape d ≡ x →
               run (rule k (s - 1 - 2) (zOf k (length (take s fresh)) (getD (take s fresh) 0 0) (drop 1 (take s fresh)))) tape d ≡ x
@@ -113,17 +114,6 @@ module _ {s : ℕ} (k : ℕ) (big : 3 ≤ s) where
           let more : s - 1 ≡ s - 2 + 1 = omega arith in
           let fewer : s - 2 ≡ s - 1 - 1 = omega arith in
           rule-more f same g (ap (λ (j : ℕ). take j rs) more ∙ h ∙ ap (λ (j : ℕ). added (2 ^ k) (take j first) (take j second)) fewer)
-
-      -- three shares: U and Z have two each, which give one
-      pub rule-three : s ≡ 3 → {z : List ℕ} → Words 9 (2 ^ k) u → Words 9 (2 ^ k) z → z ≡ zOf k s (getD fresh 0 0) u →
-          {a b : ℕ} → a ≡ xor (getD u 0 0) (getD u 1 0) → b ≡ xor (getD z 0 0) (getD z 1 0) →
-          Given 8 (s - 1) (2 ^ k) true (a ∷ b ∷ replicate 6 0) c (run (rule k (s - 2) (take s ws)) tape p)
-      unfolding added along
-      rule-three three {z} wu wz same {a} {b} e f =
-          whole refl
-          (words-cons (rw e (within wu)) (words-cons (rw f (within wz)) (words-same (pow-pos k))))
-          (ap (λ (n : ℕ). ran (take (n - 1) (a ∷ b ∷ replicate 6 0)) c) three ∙ ap₂ (λ x y. ran (x ∷ y ∷ []) c) e f
-          ∙ rule-more (pair u three tape c) same (pair z three tape c) refl)
 
 -- ---- the zero share appended
 module _ {n : ℕ} (k : ℕ) {ws w : List ℕ} (a : Held 8 n (2 ^ k) ws) (c : Copied 9 ws w) where

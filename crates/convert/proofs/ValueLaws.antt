@@ -29,12 +29,15 @@ use Rattle.shares.specs.Refresh.{refresh, refreshPlan}
 use Rattle.shares.proofs.SharingLaws.{Shares}
 use Rattle.shares.proofs.RefreshLaws.{refresh-keeps}
 use Rattle.convert.specs.ToArithmetic.{psi, psis, zOf, added, rule, toArithmetic, toArithmeticPlan}
-use Rattle.convert.specs.AtOnce.{extra}
 use Rattle.convert.proofs.ListLaws.{psi-below, z-words}
 use Rattle.convert.proofs.PsiLaws.{psi-add, psi-affine}
 
 -- ---- Z recombines to Ψ of x and what U recombines to
--- x, combined with what is combined for s shares, is that for s + 1
+-- what is combined into the first of Z, of s shares
+abbrev extra : ℕ → ℕ → ℕ
+extra s x = pick (eqb (s % 2) 1) x 0
+
+-- x, combined with that for s shares, is that for s + 1
 extra-more : (s x : ℕ) → xor x (extra s x) ≡ extra (suc s) x
 extra-more s x = go (ℕ-discrete (s % 2) 1)
   where

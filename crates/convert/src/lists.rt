@@ -1,5 +1,5 @@
-// The lists that the rule makes: U, Z, and their results added. As in a halving, the loops go over all words of an array, which are all
-// below 2^k, and write each word once.
+// The lists that the rule makes: U, Z, and their results added. The maps go over all words of an array, which are all below 2^k.
+use words::add_mod;
 use words::power;
 ghost use mathlib.Core.Path.{_≡_};
 ghost use Prim.Native.Nat.{_+_, _^_, _≤_, _<_};
@@ -7,7 +7,6 @@ ghost use lib.ListN.{take, drop};
 ghost use Rattle.numbers.specs.Lists.{Words};
 ghost use Rattle.shares.specs.Arrays.{Copied};
 ghost use Rattle.convert.specs.ToArithmetic.{psi, zOf, added};
-ghost use Rattle.convert.specs.AtOnce.{extra, veiled, placed};
 
 // Ψ(x,u). The remainder is by a power of two, so it compiles to a mask.
 fn psi(x: u32, u: u32, k: u32) -> u32
@@ -28,47 +27,19 @@ pub fn u_of(shares: [u32; 9]) -> [u32; 9]
     words
 }
 
-// What the first word of Z is combined with: x if s is odd.
-fn extra(x: u32, s: usize) -> u32
-    ensures { λ r. ⌜ r ≡ extra s x ⌝ }
-{
-    if s % 2 == 1 { x } else { 0 }
-}
-
-// The word of Z at place i.
-fn veiled(i: usize, x: u32, u: u32, e: u32, k: u32) -> u32
-    requires { ⌜ k ≤ 31 ⌝ }
-    ensures { λ r. ⌜ r ≡ veiled k x e i u ⌝ }
-{
-    let z = psi(x, u, k);
-    if i == 0 { z ^ e } else { z }
-}
-
 // Z, of s shares that are x and then those of U.
 pub fn z_of(x: u32, u: [u32; 9], s: usize, k: u32) -> [u32; 9]
     requires { ⌜ k ≤ 31 ⌝ }
     ensures { λ r. ⌜ r ≡ zOf k s x u ⌝ }
 {
-    let e = extra(x, s);
     let mut words = u;
     for i in 0..9 {
-        words[i] = veiled(i, x, words[i], e, k);
+        words[i] = psi(x, words[i], k);
+    }
+    if s % 2 == 1 {
+        words[0] = words[0] ^ x;
     }
     words
-}
-
-// The word at place i of the results added, n shares each, end being Z's last.
-fn placed(i: usize, u: u32, z: u32, end: u32, n: usize, k: u32) -> u32
-    requires { ⌜ (1 ≤ n) × (k ≤ 31) × (u < 2 ^ k) × (z < 2 ^ k) ⌝ }
-    ensures { λ r. ⌜ r ≡ placed (2 ^ k) n end z i u ⌝ }
-{
-    if i == n {
-        end
-    } else if i < n - 1 {
-        (u + z) % power(k)
-    } else {
-        u
-    }
 }
 
 // The results of U and Z, n shares each, added; the last ones are kept apart.
@@ -76,10 +47,12 @@ pub fn added(u: [u32; 8], z: [u32; 8], n: usize, k: u32) -> [u32; 8]
     requires { ⌜ (1 ≤ n) × (n ≤ 7) × (k ≤ 31) × Words 8 (2 ^ k) u × Words 8 (2 ^ k) z ⌝ }
     ensures { λ r. ⌜ Words 8 (2 ^ k) r × (take (n + 1) r ≡ added (2 ^ k) (take n u) (take n z)) ⌝ }
 {
-    let end = z[n - 1];
+    let m = power(k);
+    let last = n - 1;
     let mut words = u;
-    for i in 0..8 {
-        words[i] = placed(i, words[i], z[i], end, n, k);
+    for i in 0..last {
+        words[i] = add_mod(words[i], z[i], m);
     }
+    words[n] = z[last];
     words
 }

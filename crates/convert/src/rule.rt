@@ -12,12 +12,18 @@ ghost use Rattle.draws.specs.Draws.{run};
 ghost use Rattle.shares.specs.Arrays.{Held, Gave};
 ghost use Rattle.convert.specs.ToArithmetic.{rule, toArithmetic};
 
-// The rule on three shares or more: it calls itself on U and then on Z, one share fewer each time. Two shares give one, their exclusive or;
-// with three, U and Z have two each, and no call is made for that: it would be every other call.
+// Two shares give one; with three or more the rule calls itself on U and then on Z, one share fewer each time.
 fn rule(shares: [u32; 9], s: usize, k: u32, cursor: Cursor, tape: &[u32]) -> Shared
-    requires { ⌜ (k ≤ 31) × (3 ≤ s) × Held 9 s (2 ^ k) shares ⌝ }
+    requires { ⌜ (k ≤ 31) × Held 9 s (2 ^ k) shares ⌝ }
     ensures { λ r. ⌜ Gave (s - 1) (2 ^ k) r (run (rule k (s - 2) (take s shares)) (now (tape .entry)) cursor) ⌝ }
 {
+    if s == 2 {
+        return Shared {
+            words: [shares[0] ^ shares[1], 0, 0, 0, 0, 0, 0, 0],
+            cursor,
+            ok: true,
+        };
+    }
     let y = refresh_nine(shares, s, k, cursor, tape);
     if !y.ok {
         return Shared::ended();
@@ -25,21 +31,13 @@ fn rule(shares: [u32; 9], s: usize, k: u32, cursor: Cursor, tape: &[u32]) -> Sha
     let fresh = y.words;
     let c = y.cursor;
     let u = u_of(fresh);
-    let z = z_of(fresh[0], u, s, k);
-    if s == 3 {
-        return Shared {
-            words: [u[0] ^ u[1], z[0] ^ z[1], 0, 0, 0, 0, 0, 0],
-            cursor: c,
-            ok: true,
-        };
-    }
     let a = rule(u, s - 1, k, c, tape);
     if !a.ok {
         return Shared::ended();
     }
     let first = a.words;
     let d = a.cursor;
-    let b = rule(z, s - 1, k, d, tape);
+    let b = rule(z_of(fresh[0], u, s, k), s - 1, k, d, tape);
     if !b.ok {
         return Shared::ended();
     }

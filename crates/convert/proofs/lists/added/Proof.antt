@@ -3,86 +3,89 @@ use Rattle.convert.proofs.lists.added.Statement.{statement}
 use Rattle.convert.proofs.lists.added.Tie as tie
 use Rattle.convert.proofs.lists.added.Reads as reads
 use Rattle.convert.proofs.lists.added.Lts as lts
-use Rattle.convert.proofs.lists.placed.Reads as placed-reads
-use mathlib.Core.Path.{ap, _∙_}
-use Prim.Native.Nat.{_+_, _-_, _^_}
-use lib.ListN.{getD, take}
+use Rattle.words.proofs.add_mod.Reads as add-mod-reads
+use Rattle.words.proofs.power.Reads as power-reads
+use Prim.Native.Nat.{_-_, _^_}
 use lib.Pow.{pow-pos}
-use Rattle.numbers.proofs.WordsLaws.{words-at}
-use Rattle.numbers.proofs.AlongLaws.{Along, along-start, along-read, along-more, along-below, along-all}
-use Rattle.convert.specs.AtOnce.{placed}
-use Rattle.convert.proofs.ListLaws.{placed-below, added-is}
+use Rattle.convert.proofs.ListLaws.{Adding, adding-start, adding-word, adding-other, adding-more, adding-words, adding-all}
 
 abbrev Inv-loop : tie.InvT-loop
-Inv-loop n k z end words₀ i₀ words i = Along 8 (λ j u. placed (2 ^ k) n end (getD z j 0) j u) words₀ i words
+Inv-loop n k z m last words₀ i₀ words i = Adding (2 ^ k) n words₀ z i words
 
 abbrev μ-loop : tie.MeasureT-loop
-μ-loop n k z end words₀ i₀ words i = 8 - i
+μ-loop n k z m last words₀ i₀ words i = last - i
 
--- src/lists.rt:79:17
-sub-end : tie.Need-sub-end Inv-loop μ-loop
-sub-end c = search needs
+-- src/lists.rt:50:9
+power-requires : tie.Need-power-requires Inv-loop μ-loop
+power-requires c κs = search needs
 
--- src/lists.rt:79:15
-mul-end : tie.Need-mul-end Inv-loop μ-loop
-mul-end c = search needs
+-- src/lists.rt:51:16
+sub-last : tie.Need-sub-last Inv-loop μ-loop
+sub-last c = search needs
 
--- src/lists.rt:79:15
-array-read-end : tie.Need-array-read-end Inv-loop μ-loop
-array-read-end c = search needs
-
--- src/lists.rt:81:5
+-- src/lists.rt:53:5
 loop-holds : tie.Need-loop-holds Inv-loop μ-loop
-loop-holds c = along-start (search needs)
+loop-holds c = let (l, r, _, u, z) = c .before .pre in adding-start l r (pow-pos _) u z
 
--- src/lists.rt:82:30
-mul-placed : tie.Need-mul-placed Inv-loop μ-loop
-mul-placed c = search needs
+-- src/lists.rt:54:28
+mul-add-mod : tie.Need-mul-add-mod Inv-loop μ-loop
+mul-add-mod c = search needs
 
--- src/lists.rt:82:30
-array-read-placed : tie.Need-array-read-placed Inv-loop μ-loop
-array-read-placed c = search needs
+-- src/lists.rt:54:28
+array-read-add-mod : tie.Need-array-read-add-mod Inv-loop μ-loop
+array-read-add-mod c = search needs
 
--- src/lists.rt:82:40
-mul-placed-2 : tie.Need-mul-placed-2 Inv-loop μ-loop
-mul-placed-2 c = search needs
+-- src/lists.rt:54:38
+mul-add-mod-2 : tie.Need-mul-add-mod-2 Inv-loop μ-loop
+mul-add-mod-2 c = search needs
 
--- src/lists.rt:82:40
-array-read-placed-2 : tie.Need-array-read-placed-2 Inv-loop μ-loop
-array-read-placed-2 c = search needs
+-- src/lists.rt:54:38
+array-read-add-mod-2 : tie.Need-array-read-add-mod-2 Inv-loop μ-loop
+array-read-add-mod-2 c = search needs
 
--- src/lists.rt:82:20
-placed-requires : tie.Need-placed-requires Inv-loop μ-loop
-placed-requires c κs =
-    let (l, r, k, u, z) = c .before .before .pre in
-    (l, k, rw (along-read (c .before .loop .inv)) (words-at (pow-pos _) u _), words-at (pow-pos _) z _)
+-- src/lists.rt:54:20
+add-mod-requires : tie.Need-add-mod-requires Inv-loop μ-loop
+add-mod-requires c κs = let a = c .before .loop .inv in rw (c .before .before .power .ensures) (adding-word a, adding-other a _)
 
--- src/lists.rt:82:9
+-- src/lists.rt:54:9
 mul-words : tie.Need-mul-words Inv-loop μ-loop
 mul-words c = search needs
 
--- src/lists.rt:82:9
+-- src/lists.rt:54:9
 array-write-words : tie.Need-array-write-words Inv-loop μ-loop
 array-write-words c = search needs
 
--- src/lists.rt:81:9
+-- src/lists.rt:53:9
 add-i : tie.Need-add-i Inv-loop μ-loop
 add-i c = search needs
 
--- src/lists.rt:81:5
+-- src/lists.rt:53:5
 loop-less : tie.Need-loop-less Inv-loop μ-loop
 loop-less c = search needs
 
--- src/lists.rt:81:5
+-- src/lists.rt:53:5
 loop-again : tie.Need-loop-again Inv-loop μ-loop
-loop-again c = along-more (c .before .before .loop .inv) (c .before .loop-test .taken) (c .placed .ensures)
+loop-again c = let l = c .before .before in adding-more (l .loop .inv) (c .before .loop-test .taken) (l .before .power .ensures) (c .add-mod .ensures)
 
--- src/lists.rt:75:1
+-- src/lists.rt:56:16
+mul-words-2 : tie.Need-mul-words-2 Inv-loop μ-loop
+mul-words-2 c = search needs
+
+-- src/lists.rt:56:16
+array-read-words : tie.Need-array-read-words Inv-loop μ-loop
+array-read-words c = search needs
+
+-- src/lists.rt:56:5
+mul-words-3 : tie.Need-mul-words-3 Inv-loop μ-loop
+mul-words-3 c = search needs
+
+-- src/lists.rt:56:5
+array-write-words-2 : tie.Need-array-write-words-2 Inv-loop μ-loop
+array-write-words-2 c = search needs
+
+-- src/lists.rt:46:1
 returns : tie.Need-returns Inv-loop μ-loop
-returns c =
-    let (l, r, k, u, z) = c .before .before .pre in
-    let a = c .before .loop .inv in
-    (along-below a u (λ j x h. placed-below _ _ _ _ j x (pow-pos _) (words-at (pow-pos _) z _) h), ap (take (c .before .before .args .n + 1)) (along-all a (c .loop-test .left)) ∙ added-is _ _ _ _ l r (u .size))
+returns c = let a = c .before .loop .inv in (adding-words a, adding-all a (c .loop-test .left))
 
 pub added-spec : {M : Type 1} → statement M
 added-spec =
@@ -90,18 +93,21 @@ added-spec =
     (tie.spec
     Inv-loop
     μ-loop
-    sub-end
-    mul-end
-    array-read-end
+    power-requires
+    sub-last
     loop-holds
-    mul-placed
-    array-read-placed
-    mul-placed-2
-    array-read-placed-2
-    placed-requires
+    mul-add-mod
+    array-read-add-mod
+    mul-add-mod-2
+    array-read-add-mod-2
+    add-mod-requires
     mul-words
     array-write-words
     add-i
     loop-less
     loop-again
+    mul-words-2
+    array-read-words
+    mul-words-3
+    array-write-words-2
     returns)

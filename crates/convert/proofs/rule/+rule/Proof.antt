@@ -1,11 +1,11 @@
 use borrow.Author.Needs.{needs}
-use mathlib.Core.Path.{_≡_, refl}
+use mathlib.Core.Path.{_≡_, refl, sym, subst}
 use Prim.Native.Nat.{ℕ, _-_, _^_, _≤_, _<_}
 use native.Mathlib.Omega.{arith}
 use lib.ListN.{take}
 use lib.Pow.{pow-pos}
-use borrow.Author.Tests.{not-false}
 use denote.Ref.{now}
+use borrow.Author.Tests.{not-false}
 use Rattle.numbers.specs.Modulo.{xor}
 use Rattle.numbers.specs.Lists.{Words}
 use Rattle.numbers.proofs.WordsLaws.{words-at}
@@ -15,7 +15,7 @@ use Rattle.shares.specs.Sharing.{boolean}
 use Rattle.shares.specs.Refresh.{refresh}
 use Rattle.shares.proofs.ArraysLaws.{gave, stopped, whole, cut-off}
 use Rattle.convert.proofs.ListLaws.{z-words}
-use Rattle.convert.proofs.RuleLaws.{held-shorter, u-words, refresh-ended, u-ended, z-ended, rule-gave, rule-three}
+use Rattle.convert.proofs.RuleLaws.{rule-two, held-shorter, u-words, refresh-ended, u-ended, z-ended, rule-gave}
 use borrow.Fn.Kinds.{In}
 use borrow.Fn.PlainCycle.{Measures, is, falls, and}
 use Rattle.convert.proofs.rule.rule.Reads as rule
@@ -40,34 +40,51 @@ rule-below t = and 1 rule-kinds.ps (falls 1 rule-kinds.ps _<_ μ-rule t) rule.Pr
 
 -- what the calls ask and what they teach
 abbrev calls : ℕ → rule-lts.Claims
-calls t = (refresh-nine-reads.Asked, refresh-nine-reads.Learnt, ended-reads.Asked, ended-reads.Learnt, u-of-reads.Asked, u-of-reads.Learnt, z-of-reads.Asked, z-of-reads.Learnt, rule-below t, rule.Post, added-reads.Asked, added-reads.Learnt)
+calls t = (refresh-nine-reads.Asked, refresh-nine-reads.Learnt, ended-reads.Asked, ended-reads.Learnt, u-of-reads.Asked, u-of-reads.Learnt, rule-below t, rule.Post, z-of-reads.Asked, z-of-reads.Learnt, added-reads.Asked, added-reads.Learnt)
 
--- the places of the code that the answers speak of: where U is there, and where Z is
+-- the places of the code that the answers speak of
+abbrev Refreshed : ℕ → Type 0
+Refreshed t = rule-lts.After-refresh-nine (calls t) (rule-at t) rule.Post
+
 abbrev OnU : ℕ → Type 0
 OnU t = rule-lts.After-u-of (calls t) (rule-at t) rule.Post
 
 abbrev OnZ : ℕ → Type 0
 OnZ t = rule-lts.After-z-of (calls t) (rule-at t) rule.Post
 
-abbrev refreshed : {t : ℕ} → OnU t → rule-lts.After-refresh-nine (calls t) (rule-at t) rule.Post
+abbrev refreshed : {t : ℕ} → OnU t → Refreshed t
 refreshed c = c .before .before .before .before .before
 
-abbrev start : {t : ℕ} → OnU t → rule-lts.Start (calls t) (rule-at t) rule.Post
-start c = refreshed c .before .before
+abbrev on-u : {t : ℕ} → OnZ t → OnU t
+on-u c = c .before .before .before .before .before .before
 
-fresh-words : {t : ℕ} (c : OnU t) → Words 9 (2 ^ start c .args .k) (refreshed c .refresh-nine .result .words)
-fresh-words c = refreshed c .refresh-nine .ensures .below (not-false _ (c .before .before .before .if1 .left))
+big : {t : ℕ} (c : Refreshed t) → 3 ≤ c .before .before .before .args .s
+big c = let s = c .before .before .before in omega (arith, c .before .if1 .left, s .pre .1 .1 .least)
 
-u-below : {t : ℕ} (c : OnU t) → Words 9 (2 ^ start c .args .k) (c .u-of .result)
-u-below c = u-words (pow-pos _) (fresh-words c) (c .u-of .ensures)
-
-z-below : {t : ℕ} (c : OnZ t) → Words 9 (2 ^ start (c .before) .args .k) (c .z-of .result)
-z-below c = rw (c .z-of .ensures) (z-words _ _ _ (words-at (pow-pos _) (fresh-words (c .before)) 0) (u-below (c .before)))
+fresh-words : {t : ℕ} (c : OnU t) → let r = refreshed c in Words 9 (2 ^ r .before .before .before .args .k) (r .refresh-nine .result .words)
+fresh-words c = refreshed c .refresh-nine .ensures .below (not-false _ (c .before .before .before .if2 .left))
 
 gave-fresh : {t : ℕ} (c : OnU t) →
-    let a = start c .args in
-    run (refresh (boolean (a .k)) (take (a .s) (a .shares))) (now (a .tape)) (a .cursor) ≡ ran (take (a .s) (refreshed c .refresh-nine .result .words)) (refreshed c .refresh-nine .result .cursor)
-gave-fresh c = gave (refreshed c .refresh-nine .ensures) (c .before .before .before .if1 .left)
+    let r = refreshed c in
+    let a = r .before .before .before .args in
+    run (refresh (boolean (a .k)) (take (a .s) (a .t1))) (now (a .tape)) (a .cursor) ≡ ran (take (a .s) (r .refresh-nine .result .words)) (r .refresh-nine .result .cursor)
+gave-fresh c = gave (refreshed c .refresh-nine .ensures) (c .before .before .before .if2 .left)
+
+u-below : {t : ℕ} (c : OnU t) → Words 9 (2 ^ refreshed c .before .before .before .args .k) (c .u-of .result)
+u-below c = u-words (pow-pos _) (fresh-words c) (c .u-of .ensures)
+
+z-below : {t : ℕ} (c : OnZ t) → Words 9 (2 ^ refreshed (on-u c) .before .before .before .args .k) (c .z-of .result)
+z-below c = let o = on-u c in subst (Words 9 _) (sym (c .z-of .ensures)) (z-words _ _ _ (words-at (pow-pos _) (fresh-words o) 0) (u-below o))
+
+rule-array-read-t20 : (t : ℕ) → rule-lts.Need-array-read-t20 (calls t) (rule-at t) rule.Post
+rule-array-read-t20 t c = search needs
+
+rule-array-read-t23 : (t : ℕ) → rule-lts.Need-array-read-t23 (calls t) (rule-at t) rule.Post
+rule-array-read-t23 t c = search needs
+
+rule-returns : (t : ℕ) → rule-lts.Need-returns (calls t) (rule-at t) rule.Post
+unfolding xor
+rule-returns t c = rule-two _ _ _ (c .before .before .pre .1 .1) (c .if1 .taken) refl
 
 rule-refresh-nine-requires : (t : ℕ) → rule-lts.Need-refresh-nine-requires (calls t) (rule-at t) rule.Post
 rule-refresh-nine-requires t c κs = search needs
@@ -75,72 +92,47 @@ rule-refresh-nine-requires t c κs = search needs
 rule-ended-requires : (t : ℕ) → rule-lts.Need-ended-requires (calls t) (rule-at t) rule.Post
 rule-ended-requires t c κs = search needs
 
-rule-returns : (t : ℕ) → rule-lts.Need-returns (calls t) (rule-at t) rule.Post
-rule-returns t c =
-    let r = c .before .before .before in
-    let s = r .before .before in
-    cut-off (c .ended .ensures) (refresh-ended _ (s .pre .1 .1) _ _ _ (stopped (r .refresh-nine .ensures) (c .before .if1 .taken)))
+rule-returns-2 : (t : ℕ) → rule-lts.Need-returns-2 (calls t) (rule-at t) rule.Post
+rule-returns-2 t c = let r = c .before .before .before in cut-off (c .ended .ensures) (refresh-ended _ (big r) _ _ _ (stopped (r .refresh-nine .ensures) (c .before .if2 .taken)))
 
 rule-u-of-requires : (t : ℕ) → rule-lts.Need-u-of-requires (calls t) (rule-at t) rule.Post
 rule-u-of-requires t c κs = search needs
-
-rule-array-read-z-of : (t : ℕ) → rule-lts.Need-array-read-z-of (calls t) (rule-at t) rule.Post
-rule-array-read-z-of t c = search needs
-
-rule-z-of-requires : (t : ℕ) → rule-lts.Need-z-of-requires (calls t) (rule-at t) rule.Post
-rule-z-of-requires t c κs =
-    let (k, big, a) = start c .pre .1 in
-    k
-
-rule-array-read-t25 : (t : ℕ) → rule-lts.Need-array-read-t25 (calls t) (rule-at t) rule.Post
-rule-array-read-t25 t c = search needs
-
-rule-array-read-t28 : (t : ℕ) → rule-lts.Need-array-read-t28 (calls t) (rule-at t) rule.Post
-rule-array-read-t28 t c = search needs
-
-rule-array-read-t32 : (t : ℕ) → rule-lts.Need-array-read-t32 (calls t) (rule-at t) rule.Post
-rule-array-read-t32 t c = search needs
-
-rule-array-read-t35 : (t : ℕ) → rule-lts.Need-array-read-t35 (calls t) (rule-at t) rule.Post
-rule-array-read-t35 t c = search needs
-
-rule-returns-2 : (t : ℕ) → rule-lts.Need-returns-2 (calls t) (rule-at t) rule.Post
-unfolding xor
-rule-returns-2 t c =
-    let z = c .before in
-    let u = z .before in
-    let (k, big, a) = start u .pre .1 in
-    rule-three _ big _ _ _ _ (fresh-words u .size) (a .most) (gave-fresh u) (u .u-of .ensures) (c .if2 .taken) (u-below u) (z-below z) (z .z-of .ensures) refl refl
 
 rule-sub-rule : (t : ℕ) → rule-lts.Need-sub-rule (calls t) (rule-at t) rule.Post
 rule-sub-rule t c = search needs
 
 rule-rule-requires : (t : ℕ) → rule-lts.Need-rule-requires (calls t) (rule-at t) rule.Post
 rule-rule-requires t c κs =
-    let u = c .before .before in
-    let (same, (k, big, a)) = start u .pre in
-    (omega (arith, same), (k, omega (arith, c .if2 .left), held-shorter a big (u-below u)))
+    let r = refreshed c in
+    let s = r .before .before .before in
+    (omega (arith, s .pre .0, big r), (s .pre .1 .0, held-shorter (s .pre .1 .1) (big r) (u-below c)))
 
 rule-ended-requires-2 : (t : ℕ) → rule-lts.Need-ended-requires-2 (calls t) (rule-at t) rule.Post
 rule-ended-requires-2 t c κs = search needs
 
 rule-returns-3 : (t : ℕ) → rule-lts.Need-returns-3 (calls t) (rule-at t) rule.Post
 rule-returns-3 t c =
-    let r = c .before .before .before in
-    let u = r .before .before .before in
-    let (k, big, a) = start u .pre .1 in
-    cut-off (c .ended2 .ensures)
-    (u-ended _ big _ _ _ _ (fresh-words u .size) (a .most) (gave-fresh u) (u .u-of .ensures) (stopped (r .rule .ensures) (c .before .if3 .taken)))
+    let a = c .before .before .before in
+    let o = a .before in
+    let r = refreshed o in
+    cut-off (c .ended2 .ensures) (u-ended _ (big r) _ _ _ _ (fresh-words o .size) (r .before .before .before .pre .1 .1 .most)
+    (gave-fresh o) (o .u-of .ensures) (stopped (a .rule .ensures) (c .before .if3 .taken)))
+
+rule-array-read-z-of : (t : ℕ) → rule-lts.Need-array-read-z-of (calls t) (rule-at t) rule.Post
+rule-array-read-z-of t c = search needs
+
+rule-z-of-requires : (t : ℕ) → rule-lts.Need-z-of-requires (calls t) (rule-at t) rule.Post
+rule-z-of-requires t c κs = search needs
 
 rule-sub-rule-2 : (t : ℕ) → rule-lts.Need-sub-rule-2 (calls t) (rule-at t) rule.Post
 rule-sub-rule-2 t c = search needs
 
 rule-rule-requires-2 : (t : ℕ) → rule-lts.Need-rule-requires-2 (calls t) (rule-at t) rule.Post
 rule-rule-requires-2 t c κs =
-    let e = c .before .before .before .before .before in
-    let z = e .before in
-    let (same, (k, big, a)) = start (z .before) .pre in
-    (omega (arith, same), (k, omega (arith, e .if2 .left), held-shorter a big (z-below z)))
+    let o = on-u c in
+    let r = refreshed o in
+    let s = r .before .before .before in
+    (omega (arith, s .pre .0, big r), (s .pre .1 .0, held-shorter (s .pre .1 .1) (big r) (z-below c)))
 
 rule-ended-requires-3 : (t : ℕ) → rule-lts.Need-ended-requires-3 (calls t) (rule-at t) rule.Post
 rule-ended-requires-3 t c κs = search needs
@@ -148,59 +140,56 @@ rule-ended-requires-3 t c κs = search needs
 rule-returns-4 : (t : ℕ) → rule-lts.Need-returns-4 (calls t) (rule-at t) rule.Post
 rule-returns-4 t c =
     let b = c .before .before .before in
-    let l = b .before .before .before in
-    let r = l .before .before in
-    let z = r .before .before in
-    let u = z .before in
-    let (k, big, a) = start u .pre .1 in
-    cut-off (c .ended3 .ensures)
-    (z-ended _ big _ _ _ _ (fresh-words u .size) (a .most) (gave-fresh u) (u .u-of .ensures) (gave (r .rule .ensures) (l .if3 .left)) (z .z-of .ensures)
+    let z = b .before in
+    let o = on-u z in
+    let r = refreshed o in
+    cut-off (c .ended3 .ensures) (z-ended _ (big r) _ _ _ _ (fresh-words o .size) (r .before .before .before .pre .1 .1 .most)
+    (gave-fresh o) (o .u-of .ensures)
+    (gave (z .before .before .before .before .before .rule .ensures) (z .before .before .before .if3 .left)) (z .z-of .ensures)
     (stopped (b .rule2 .ensures) (c .before .if4 .taken)))
 
 rule-sub-added : (t : ℕ) → rule-lts.Need-sub-added (calls t) (rule-at t) rule.Post
-rule-sub-added t c = let big = start (c .before .before .before .before .before .before .before .before .before .before .before .before) .pre .1 .1 in omega arith
+rule-sub-added t c = let r = refreshed (on-u (c .before .before .before .before .before)) in omega (arith, big r)
 
 rule-added-requires : (t : ℕ) → rule-lts.Need-added-requires (calls t) (rule-at t) rule.Post
 rule-added-requires t c κs =
-    let e = c .before .before in
-    let b = e .before .before in
-    let l = b .before .before .before in
-    let r = l .before .before in
-    let (k, big, a) = start (r .before .before .before) .pre .1 in
-    (omega arith, omega (arith, a .most), k, r .rule .ensures .below (not-false _ (l .if3 .left)), b .rule2 .ensures .below (not-false _ (e .if4 .left)))
+    let b = c .before .before .before .before in
+    let z = b .before in
+    let r = refreshed (on-u z) in
+    let s = r .before .before .before in
+    (omega (arith, big r), omega (arith, s .pre .1 .1 .most), s .pre .1 .0,
+    z .before .before .before .before .before .rule .ensures .below (not-false _ (z .before .before .before .if3 .left)),
+    b .rule2 .ensures .below (not-false _ (c .before .before .if4 .left)))
 
 rule-returns-5 : (t : ℕ) → rule-lts.Need-returns-5 (calls t) (rule-at t) rule.Post
 rule-returns-5 t c =
     let e = c .before .before .before in
     let b = e .before .before in
-    let l = b .before .before .before in
-    let r = l .before .before in
-    let z = r .before .before in
-    let u = z .before in
-    let (k, big, a) = start u .pre .1 in
-    whole refl (c .added .ensures .0)
-    (rule-gave _ big _ _ _ _ (fresh-words u .size) (a .most) (gave-fresh u) (u .u-of .ensures) _ (gave (r .rule .ensures) (l .if3 .left)) (z .z-of .ensures)
+    let z = b .before in
+    let o = on-u z in
+    let r = refreshed o in
+    whole refl (c .added .ensures .0) (rule-gave _ (big r) _ _ _ _ (fresh-words o .size) (r .before .before .before .pre .1 .1 .most)
+    (gave-fresh o) (o .u-of .ensures)
+    _ (gave (z .before .before .before .before .before .rule .ensures) (z .before .before .before .if3 .left)) (z .z-of .ensures)
     _ (gave (b .rule2 .ensures) (e .if4 .left)) _ (c .added .ensures .1))
 
 pub +rule-spec : {M : Type 1} → statement M
 +rule-spec = close μ-rule λ t. rule-lts.spec (calls t)
     (rule-at t)
     rule.Post
+    (rule-array-read-t20 t)
+    (rule-array-read-t23 t)
+    (rule-returns t)
     (rule-refresh-nine-requires t)
     (rule-ended-requires t)
-    (rule-returns t)
-    (rule-u-of-requires t)
-    (rule-array-read-z-of t)
-    (rule-z-of-requires t)
-    (rule-array-read-t25 t)
-    (rule-array-read-t28 t)
-    (rule-array-read-t32 t)
-    (rule-array-read-t35 t)
     (rule-returns-2 t)
+    (rule-u-of-requires t)
     (rule-sub-rule t)
     (rule-rule-requires t)
     (rule-ended-requires-2 t)
     (rule-returns-3 t)
+    (rule-array-read-z-of t)
+    (rule-z-of-requires t)
     (rule-sub-rule-2 t)
     (rule-rule-requires-2 t)
     (rule-ended-requires-3 t)

@@ -5,7 +5,6 @@ use Rattle.convert.proofs.rule.to_arithmetic.Reads as reads
 use Rattle.convert.proofs.rule.to_arithmetic.Lts as lts
 use Rattle.convert.proofs.rule.rule.Reads as rule-reads
 use Rattle.shares.proofs.widened.Reads as widened-reads
-use native.Mathlib.Omega.{arith}
 use Rattle.convert.proofs.RuleLaws.{zero-held, zero-gave}
 
 -- src/rule.rt:57:21
@@ -26,7 +25,7 @@ add-rule c = search needs
 
 -- src/rule.rt:59:5
 rule-requires : tie.Need-rule-requires
-rule-requires c κs = let p = c .before .before .pre in (p .0, omega (arith, p .1 .least), zero-held _ (p .1) (c .widened .ensures))
+rule-requires c κs = let p = c .before .before .pre in (p .0, zero-held _ (p .1) (c .widened .ensures))
 
 -- src/rule.rt:53:1
 returns : tie.Need-returns
