@@ -36,11 +36,11 @@ psi-below k x u = mod-lt _ (pow-pos k)
 module _ (k s x : ℕ) (us : List ℕ) where
   pub z-odd : s % 2 ≡ 1 → {ws : List ℕ} → ws ≡ psis k x us → set ws 0 (xor (getD ws 0 0) x) ≡ zOf k s x us
   unfolding zOf change
-  z-odd e f = rw (eq-eqb (s % 2) 1 e, f)
+  z-odd e f = ap (λ (w : List ℕ). set w 0 (xor (getD w 0 0) x)) f ∙ ap (λ t. pick t (change (λ z. xor z x) 0 (psis k x us)) (psis k x us)) (sym (eq-eqb (s % 2) 1 e))
 
   pub z-even : (s % 2 ≡ 1 → ⊥) → psis k x us ≡ zOf k s x us
   unfolding zOf
-  z-even e = rw (ne-eqb (s % 2) 1 e)
+  z-even e = ap (λ t. pick t (change (λ z. xor z x) 0 (psis k x us)) (psis k x us)) (sym (ne-eqb (s % 2) 1 e))
 
   -- what holds of Ψ of x and each share with x combined into the first, and without, holds of Z
   z-either : (P : List ℕ → Type 0) → P (change (λ z. xor z x) 0 (psis k x us)) → P (psis k x us) → P (zOf k s x us)

@@ -190,4 +190,6 @@ to-arithmetic-keeps k n v xs h pos a =
     let one : suc d ≡ n = omega arith in
     let count : 3 * 2 ^ d - d - 3 ≡ 3 * 2 ^ d - n - 2 = omega arith in
     let b : Shares (boolean k) (suc (suc d)) v (xs ++ (0 ∷ [])) = subst (λ (m : ℕ). Shares (boolean k) (suc m) v (xs ++ (0 ∷ []))) (sym one) (append-zero k v n xs a) in
-    rw (size, ← count) (subst (λ (m : ℕ). Gives (Shares (arithmetic (2 ^ k)) m v) (rule k d (xs ++ (0 ∷ []))) (rulePlan k d)) one (rule-keeps k d v (xs ++ (0 ∷ [])) h b))
+    rw size
+    (subst (λ (c : ℕ). Gives (Shares (arithmetic (2 ^ k)) n v) (rule k d (xs ++ (0 ∷ []))) (replicate c (2 ^ k))) count
+    (subst (λ (m : ℕ). Gives (Shares (arithmetic (2 ^ k)) m v) (rule k d (xs ++ (0 ∷ []))) (rulePlan k d)) one (rule-keeps k d v (xs ++ (0 ∷ [])) h b)))

@@ -40,15 +40,3 @@ impl Shared {
         }
     }
 }
-
-impl SharedNine {
-    pub fn ended() -> Self
-        ensures { λ r. ⌜ r .ok ≡ false ⌝ }
-    {
-        SharedNine {
-            words: [0u32; 9],
-            cursor: Cursor::start(),
-            ok: false,
-        }
-    }
-}

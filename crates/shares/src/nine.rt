@@ -45,7 +45,11 @@ pub fn refresh_nine(shares: [u32; 9], n: usize, k: u32, cursor: Cursor, tape: &[
     let mut last_share = words[last];
     for i in 0..last {
         let Draw::Got(r, next) = cur.draw(tape, m) else {
-            return SharedNine::ended();
+            return SharedNine {
+                words: [0u32; 9],
+                cursor: cur,
+                ok: false,
+            };
         };
         words[i] = words[i] ^ r;
         last_share = last_share ^ r;

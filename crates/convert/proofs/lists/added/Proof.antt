@@ -13,7 +13,7 @@ abbrev Inv-loop : tie.InvT-loop
 Inv-loop n k z m last words₀ i₀ words i = Adding (2 ^ k) n words₀ z i words
 
 abbrev μ-loop : tie.MeasureT-loop
-μ-loop n k z m last words₀ i₀ words i = last - i
+μ-loop n k z m last words₀ i₀ words i = 8 - i
 
 -- src/lists.rt:50:9
 power-requires : tie.Need-power-requires Inv-loop μ-loop

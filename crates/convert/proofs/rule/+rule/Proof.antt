@@ -156,10 +156,13 @@ rule-added-requires t c κs =
     let b = c .before .before .before .before in
     let z = b .before in
     let r = refreshed (on-u z) in
-    let s = r .before .before .before in
-    (omega (arith, big r), omega (arith, s .pre .1 .1 .most), s .pre .1 .0,
-    z .before .before .before .before .before .rule .ensures .below (not-false _ (z .before .before .before .if3 .left)),
-    b .rule2 .ensures .below (not-false _ (c .before .before .if4 .left)))
+    let s = r .before .before .before in (
+      omega (arith, big r),
+      omega (arith, s .pre .1 .1 .most),
+      s .pre .1 .0,
+      z .before .before .before .before .before .rule .ensures .below (not-false _ (z .before .before .before .if3 .left)),
+      b .rule2 .ensures .below (not-false _ (c .before .before .if4 .left)),
+    )
 
 rule-returns-5 : (t : ℕ) → rule-lts.Need-returns-5 (calls t) (rule-at t) rule.Post
 rule-returns-5 t c =

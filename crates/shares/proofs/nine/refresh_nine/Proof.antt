@@ -51,14 +51,10 @@ enum-known-r c = search needs
 enum-told : tie.Need-enum-told Inv-loop μ-loop
 enum-told c = search needs
 
-ended-requires : tie.Need-ended-requires Inv-loop μ-loop
-ended-requires c κs = search needs
-
 returns : tie.Need-returns Inv-loop μ-loop
 returns c =
-    let e = c .before in
-    let d = e .before .before in
-    cut-off (c .ended .ensures) (remaining-ended (d .before .before .loop .inv) (d .before .loop-test .taken) _ (told d) (e .enum-told .given .1))
+    let d = c .before .before in
+    cut-off refl (remaining-ended (d .before .before .loop .inv) (d .before .loop-test .taken) _ (told d) (c .enum-told .given .1))
 
 mul-words : tie.Need-mul-words Inv-loop μ-loop
 mul-words c = search needs
@@ -108,7 +104,6 @@ refresh-nine-spec =
     draw-requires
     enum-known-r
     enum-told
-    ended-requires
     returns
     mul-words
     array-read-words
