@@ -1,1 +1,2 @@
 pub mod ToArithmetic
+pub mod Arrays

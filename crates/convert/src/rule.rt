@@ -2,9 +2,9 @@
 use super::lists::added;
 use super::lists::u_of;
 use super::lists::z_of;
+use super::nine::into_nine;
+use super::nine::refresh_nine;
 use shares::Shared;
-use shares::refresh_nine;
-use shares::widened;
 use tape::Cursor;
 ghost use Prim.Native.Nat.{_-_, _^_, _≤_};
 ghost use lib.ListN.{take};
@@ -24,28 +24,28 @@ fn rule(shares: [u32; 9], s: usize, k: u32, cursor: Cursor, tape: &[u32]) -> Sha
             ok: true,
         };
     }
-    let y = refresh_nine(shares, s, k, cursor, tape);
-    if !y.ok {
+    let refreshed = refresh_nine(shares, s, k, cursor, tape);
+    if !refreshed.ok {
         return Shared::ended();
     }
-    let fresh = y.words;
-    let c = y.cursor;
+    let fresh = refreshed.words;
+    let c = refreshed.cursor;
     let u = u_of(fresh);
-    let a = rule(u, s - 1, k, c, tape);
-    if !a.ok {
+    let of_u = rule(u, s - 1, k, c, tape);
+    if !of_u.ok {
         return Shared::ended();
     }
-    let first = a.words;
-    let d = a.cursor;
-    let b = rule(z_of(fresh[0], u, s, k), s - 1, k, d, tape);
-    if !b.ok {
+    let first = of_u.words;
+    let after_u = of_u.cursor;
+    let of_z = rule(z_of(fresh[0], u, s, k), s - 1, k, after_u, tape);
+    if !of_z.ok {
         return Shared::ended();
     }
-    let second = b.words;
-    let e = b.cursor;
+    let second = of_z.words;
+    let after_z = of_z.cursor;
     Shared {
         words: added(first, second, s - 2, k),
-        cursor: e,
+        cursor: after_z,
         ok: true,
     }
 }
@@ -54,7 +54,7 @@ pub fn to_arithmetic(shares: [u32; 8], n: usize, k: u32, cursor: Cursor, tape: &
     requires { ⌜ (k ≤ 31) × Held 8 n (2 ^ k) shares ⌝ }
     ensures { λ r. ⌜ Gave n (2 ^ k) r (run (toArithmetic k (take n shares)) (now (tape .entry)) cursor) ⌝ }
 {
-    let mut words = widened(shares);
+    let mut words = into_nine(shares);
     words[n] = 0;
     rule(words, n + 1, k, cursor, tape)
 }

@@ -9,7 +9,6 @@ use Rattle.numbers.specs.Lists.{Words}
 use Rattle.tape.specs.declared.Cursor.{Cursor}
 use Rattle.tape.specs.Tape.{Ran, ended, ran}
 use Rattle.shares.specs.declared.Shared.{Shared}
-use Rattle.shares.specs.declared.SharedNine.{SharedNine}
 
 -- n shares below M in an array of so many words; the words after them are below M too, so that a loop may run over all of them
 pub record Held (size n M : ℕ) (words : List ℕ) : Type 0 where
@@ -32,12 +31,9 @@ pub record Given (size n M : ℕ) (ok : Bool) (words : List ℕ) (c : Cursor) (x
   pub is : handed n ok words c ≡ x
   pub below : ok ≡ true → Words size M words
 
--- an answer of eight words, and one of nine
+-- an answer of eight words
 abbrev pub shared : ℕ → Shared → Ran (List ℕ)
 shared n r = handed n (r .ok) (r .words) (r .cursor)
 
 abbrev pub Gave : (n M : ℕ) → Shared → Ran (List ℕ) → Type 0
 Gave n M r x = Given 8 n M (r .ok) (r .words) (r .cursor) x
-
-abbrev pub GaveNine : (n M : ℕ) → SharedNine → Ran (List ℕ) → Type 0
-GaveNine n M r x = Given 9 n M (r .ok) (r .words) (r .cursor) x

@@ -1,9 +1,8 @@
-// Boolean refresh of width k of at most eight shares, as the one on nine words does it.
+// Boolean refresh of width k, with the last share in a local as in the refresh mod m.
 use super::Shared;
-use super::nine::narrowed;
-use super::nine::refresh_nine;
-use super::nine::widened;
 use tape::Cursor;
+use tape::Draw;
+use words::power;
 ghost use Prim.Native.Nat.{_^_, _≤_};
 ghost use lib.ListN.{take};
 ghost use Rattle.draws.specs.Draws.{run};
@@ -15,15 +14,23 @@ pub fn refresh_boolean(shares: [u32; 8], n: usize, k: u32, cursor: Cursor, tape:
     requires { ⌜ (k ≤ 31) × Held 8 n (2 ^ k) shares ⌝ }
     ensures { λ r. ⌜ Gave n (2 ^ k) r (run (refresh (boolean k) (take n shares)) (now (tape .entry)) cursor) ⌝ }
 {
-    let s = refresh_nine(widened(shares), n, k, cursor, tape);
-    if !s.ok {
-        return Shared::ended();
+    let m = power(k);
+    let mut words = shares;
+    let mut cur = cursor;
+    let last = n - 1;
+    let mut last_share = words[last];
+    for i in 0..last {
+        let Draw::Got(r, next) = cur.draw(tape, m) else {
+            return Shared::ended();
+        };
+        words[i] = words[i] ^ r;
+        last_share = last_share ^ r;
+        cur = next;
     }
-    let nine = s.words;
-    let c = s.cursor;
+    words[last] = last_share;
     Shared {
-        words: narrowed(nine),
-        cursor: c,
+        words,
+        cursor: cur,
         ok: true,
     }
 }

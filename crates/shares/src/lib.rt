@@ -2,14 +2,11 @@
 mod arithmetic;
 mod boolean;
 mod closing;
-mod nine;
 
 pub use arithmetic::refresh;
 pub use boolean::refresh_boolean;
 pub use closing::close;
 pub use closing::close_boolean;
-pub use nine::refresh_nine;
-pub use nine::widened;
 use tape::Cursor;
 ghost use mathlib.Core.Path.{_≡_};
 ghost use mathlib.Core.Bool.{false};
@@ -17,13 +14,6 @@ ghost use mathlib.Core.Bool.{false};
 // What a gadget gives: its shares and the place of the next word, or, where `ok` is false, that the tape has ended.
 pub struct Shared {
     pub words: [u32; 8],
-    pub cursor: Cursor,
-    pub ok: bool,
-}
-
-// The same with nine words, which only Boolean to arithmetic needs.
-pub struct SharedNine {
-    pub words: [u32; 9],
     pub cursor: Cursor,
     pub ok: bool,
 }

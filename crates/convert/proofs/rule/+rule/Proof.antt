@@ -25,7 +25,7 @@ use Rattle.convert.proofs.lists.added.Reads as added-reads
 use Rattle.convert.proofs.lists.u_of.Reads as u-of-reads
 use Rattle.convert.proofs.lists.z_of.Reads as z-of-reads
 use Rattle.shares.proofs.Shared.ended.Reads as ended-reads
-use Rattle.shares.proofs.refresh_nine.Reads as refresh-nine-reads
+use Rattle.convert.proofs.nine.refresh_nine.Reads as refresh-nine-reads
 use Rattle.convert.proofs.rule.+rule.{statement}
 use Rattle.convert.proofs.rule.+rule.Tie.{close}
 

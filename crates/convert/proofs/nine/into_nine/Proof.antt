@@ -1,12 +1,12 @@
 use borrow.Author.Needs.{needs}
-use Rattle.shares.proofs.nine.widened.Statement.{statement}
-use Rattle.shares.proofs.nine.widened.Tie as tie
-use Rattle.shares.proofs.nine.widened.Reads as reads
-use Rattle.shares.proofs.nine.widened.Lts as lts
+use Rattle.convert.proofs.nine.into_nine.Statement.{statement}
+use Rattle.convert.proofs.nine.into_nine.Tie as tie
+use Rattle.convert.proofs.nine.into_nine.Reads as reads
+use Rattle.convert.proofs.nine.into_nine.Lts as lts
 use Prim.Native.Nat.{_-_}
 use mathlib.Core.Path.{refl}
 use lib.Seq.{length-take-le}
 use Rattle.shares.proofs.ArraysLaws.{Copying, copying-start, copying-more, copying-all}
 use lib.ListN.{take}
 
 abbrev Inv-loop : tie.InvT-loop
@@ -51,8 +51,8 @@ loop-again c = copying-more (c .before .loop .inv) (search needs) refl
 returns : tie.Need-returns Inv-loop μ-loop
 returns c = copying-all (c .before .loop .inv) (search needs)
 
-pub widened-spec : {M : Type 1} → statement M
-widened-spec =
+pub into-nine-spec : {M : Type 1} → statement M
+into-nine-spec =
     tie.close
     (tie.spec
     Inv-loop

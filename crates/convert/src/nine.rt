@@ -1,18 +1,18 @@
-// Arrays of nine words: the Boolean refresh is written on them, since Boolean to arithmetic appends a share.
+// Arrays of nine words: eight copied into one, and the Boolean refresh of up to nine shares.
 use super::SharedNine;
 use tape::Cursor;
 use tape::Draw;
 use words::power;
-ghost use mathlib.Core.Path.{_≡_};
 ghost use Prim.Native.Nat.{_^_, _≤_};
 ghost use lib.ListN.{take};
 ghost use Rattle.draws.specs.Draws.{run};
 ghost use Rattle.shares.specs.Sharing.{boolean};
 ghost use Rattle.shares.specs.Refresh.{refresh};
-ghost use Rattle.shares.specs.Arrays.{Held, Copied, GaveNine};
+ghost use Rattle.shares.specs.Arrays.{Held, Copied};
+ghost use Rattle.convert.specs.Arrays.{GaveNine};
 
 // Eight words, with a ninth after them.
-pub fn widened(words: [u32; 8]) -> [u32; 9]
+pub fn into_nine(words: [u32; 8]) -> [u32; 9]
     ensures { λ r. ⌜ Copied 9 words r ⌝ }
 {
     let mut out = [0u32; 9];
@@ -22,18 +22,7 @@ pub fn widened(words: [u32; 8]) -> [u32; 9]
     out
 }
 
-// The first eight of nine words.
-pub fn narrowed(words: [u32; 9]) -> [u32; 8]
-    ensures { λ r. ⌜ r ≡ take 8 words ⌝ }
-{
-    let mut out = [0u32; 8];
-    for i in 0..8 {
-        out[i] = words[i];
-    }
-    out
-}
-
-// Boolean refresh of width k, with the last share in a local as in the refresh mod m.
+// Boolean refresh of width k: that of `shares`, on nine words.
 pub fn refresh_nine(shares: [u32; 9], n: usize, k: u32, cursor: Cursor, tape: &[u32]) -> SharedNine
     requires { ⌜ (k ≤ 31) × Held 9 n (2 ^ k) shares ⌝ }
     ensures { λ r. ⌜ GaveNine n (2 ^ k) r (run (refresh (boolean k) (take n shares)) (now (tape .entry)) cursor) ⌝ }
