@@ -14,8 +14,8 @@ use borrow.Author.Tests.{eq-eqb, ne-eqb}
 use Rattle.numbers.specs.Tests.{pick}
 use Rattle.numbers.specs.Modulo.{addMod, subMod, xor}
 use Rattle.numbers.specs.Lists.{Words, change, along}
-use Rattle.numbers.proofs.Cong.{Cong, cong-eq, cong-mod, cong-sym, cong-cancel, cong-small, _⨾_}
-use Rattle.numbers.proofs.GroupLaws.{sub-back}
+use Rattle.numbers.proofs.Cong.{cong-eq, cong-mod, cong-sym, _⨾_}
+use Rattle.numbers.proofs.GroupLaws.{sub-only}
 use Rattle.numbers.proofs.XorLaws.{xor-below}
 use Rattle.numbers.proofs.WordsLaws.{words-at, words-set, words-change, take-change}
 use Rattle.numbers.proofs.AlongLaws.{Along, along-start, along-read, along-more, along-front, along-below, take-along, words-along}
@@ -23,10 +23,7 @@ use Rattle.convert.specs.ToArithmetic.{psi, psis, zOf, added}
 
 -- ---- Ψ: what the wrapping subtraction gives is the difference modulo 2^32
 pub wraps : {r : ℕ} (a b : ℕ) → r < 2 ^ 32 → (r + b) % 2 ^ 32 ≡ a → r ≡ subMod (2 ^ 32) a b
-unfolding subMod
-wraps {r} a b h e =
-    let back : Cong (2 ^ 32) (r + b) a = cong-sym cong-mod ⨾ cong-eq e in
-    cong-small h (mod-lt _ (pow-pos 32)) (cong-cancel b (back ⨾ cong-sym (sub-back (2 ^ 32) a b (pow-pos 32))))
+wraps a b h e = sub-only b h (cong-sym cong-mod ⨾ cong-eq e)
 
 pub psi-below : (k x u : ℕ) → psi k x u < 2 ^ k
 unfolding psi

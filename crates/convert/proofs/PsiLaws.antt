@@ -9,7 +9,7 @@ use lib.Pow.{pow-pos, pow-add}
 use Rattle.numbers.specs.Modulo.{subMod, xor}
 use Rattle.numbers.proofs.Cong.{Cong, cong-by, cong-out, cong-eq, cong-mod, cong-add, cong-refl, cong-sym, cong-cancel, cong-small, cong-part, via, _⨾_}
 use Rattle.numbers.proofs.XorLaws.{xor-zero, xor-half, xor-odd, by-digits}
-use Rattle.numbers.proofs.GroupLaws.{sub-back}
+use Rattle.numbers.proofs.GroupLaws.{sub-back, sub-only}
 use Rattle.convert.specs.ToArithmetic.{psi}
 use Rattle.convert.proofs.ListLaws.{psi-below}
 
@@ -24,11 +24,7 @@ psi-add k x u h =
 
 -- the difference modulo 2^32 cut to k bits is the difference modulo 2^k
 pub psi-cut : (k x u : ℕ) → k ≤ 32 → psi k x u ≡ subMod (2 ^ k) (xor x u) u
-unfolding subMod
-psi-cut k x u h = cong-small (psi-below k x u) (below _) (cong-cancel u (psi-add k x u h ⨾ cong-sym (sub-back (2 ^ k) (xor x u) u (pow-pos k))))
-  where
-    below : (a : ℕ) → subMod (2 ^ k) a u < 2 ^ k
-    below a = mod-lt _ (pow-pos k)
+psi-cut k x u h = sub-only u (psi-below k x u) (psi-add k x u h)
 
 -- ---- digit by digit
 -- the next borrow

@@ -15,7 +15,7 @@ use Rattle.numbers.proofs.WordsLaws.{words-cons, words-at, words-drop, words-se
 use Rattle.tape.specs.declared.Cursor.{Cursor}
 use Rattle.tape.specs.Tape.{Ran, ended, ran}
 use Rattle.draws.specs.Draws.{Draws, done, bind, run}
-use Rattle.draws.proofs.RunLaws.{run-done, bind-ran, bind-ended}
+use Rattle.draws.proofs.RunLaws.{run-done, bind-ran, bind-ended, part-ran, part-ended}
 use Rattle.shares.specs.Sharing.{boolean}
 use Rattle.shares.specs.Refresh.{refresh}
 use Rattle.shares.specs.Arrays.{Held, Copied, Given}
@@ -58,7 +58,7 @@ module _ {s : ℕ} (k : ℕ) (big : 3 ≤ s) where
 
   module _ (ws tape : List ℕ) (p : Cursor) where
     pub refresh-ended : run (refresh (boolean k) (take s ws)) tape p ≡ ended → ended ≡ run (rule k (s - 2) (take s ws)) tape p
-    refresh-ended e = sym (ap (λ d. run d tape p) (rule-is (take s ws)) ∙ bind-ended (refresh (boolean k) (take s ws)) after-refresh tape p e)
+    refresh-ended = part-ended _ _ tape p (rule-is (take s ws))
 
     module _ (fresh : List ℕ) {u : List ℕ} {c : Cursor} (size : length fresh ≡ 9) (most : s ≤ 9) (e : run (refresh (boolean k) (take s ws)) tape p ≡ ran (take s fresh) c)
         (w : Copied 9 (drop 1 fresh) u) where
@@ -69,7 +69,7 @@ module _ {s : ℕ} (k : ℕ) (big : 3 ≤ s) where
           copied-take (s - 1) w (omega (arith, length-drop 1 fresh)) ∙ take-rest (s - 1) fresh ∙ ap (λ (j : ℕ). drop 1 (take j fresh)) one
 
       refreshed : run (rule k (s - 2) (take s ws)) tape p ≡ run (after-refresh (take s fresh)) tape c
-      refreshed = ap (λ d. run d tape p) (rule-is (take s ws)) ∙ bind-ran (refresh (boolean k) (take s ws)) after-refresh tape p (take s fresh) c e
+      refreshed = part-ran _ _ tape p (rule-is (take s ws)) e
 
       on-u : {x : Ran (List ℕ)} → run (rule k (s - 1 - 2) (take (s - 1) u)) tape c ≡ x → run (rule k (s - 1 - 2) (drop 1 (take s fresh))) tape c ≡ x
       on-u f = ap (λ xs. run (rule k (s - 1 - 2) xs) tape c) (sym u-is) ∙ f

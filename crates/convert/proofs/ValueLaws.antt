@@ -17,7 +17,7 @@ use Rattle.numbers.specs.Lists.{Words, fold, sum, xorAll, change, along}
 use Rattle.numbers.proofs.Cong.{Cong, cong-eq, cong-mod, cong-add, cong-refl, cong-sym, via, _⨾_}
 use Rattle.numbers.proofs.XorLaws.{xor-comm, xor-self, xor-zero, zero-xor, xor-assoc, xor-below}
 use Rattle.numbers.proofs.GroupLaws.{xors}
-use Rattle.numbers.proofs.WordsLaws.{words-head, words-tail, words-cons, words-at, words-take, words-append}
+use Rattle.numbers.proofs.WordsLaws.{words-none, words-head, words-tail, words-cons, words-at, words-take, words-append}
 use Rattle.numbers.proofs.FoldLaws.{fold-below}
 use Rattle.numbers.proofs.SumLaws.{sum-append, sum-added, sum-more}
 use Rattle.numbers.proofs.AlongLaws.{words-along}
@@ -81,11 +81,11 @@ module _ {n M : ℕ} (pos : 0 < M) {us zs : List ℕ} (wu : Words (suc n) M us) 
   unfolding added
   added-at = let e : length us - 1 ≡ n = omega (arith, wu .size) in rw e
 
-  pub added-words : Words (suc (suc n)) M (added M us zs)
+  added-words : Words (suc (suc n)) M (added M us zs)
   unfolding addMod
   added-words =
       let front : Words n M (along (λ j u. addMod M u (getD zs j 0)) (take n us)) = words-along _ (words-take n (omega arith) wu) (λ i x l h. mod-lt _ pos) in
-      let back : Words 2 M ends = words-cons (words-at pos wu n) (words-cons (words-at pos wz n) (record { size = refl; below = λ i h. absurd (omega arith) })) in
+      let back : Words 2 M ends = words-cons (words-at pos wu n) (words-cons (words-at pos wz n) words-none) in
       let two : n + 2 ≡ suc (suc n) = omega arith in
       subst (λ xs. Words (suc (suc n)) M xs) (sym added-at) (subst (λ (m : ℕ). Words m M (along (λ j u. addMod M u (getD zs j 0)) (take n us) ++ ends)) two (words-append _ front back))
 
@@ -104,18 +104,18 @@ module _ {n M : ℕ} (pos : 0 < M) {us zs : List ℕ} (wu : Words (suc n) M us) 
 
 -- ---- the rule
 -- what it draws, on two shares and j more
-unfoldable pub ruleDraws : ℕ → ℕ
+unfoldable ruleDraws : ℕ → ℕ
 ruleDraws j = 3 * 2 ^ j - j - 3
 
-pub enough : (j : ℕ) → j + 3 ≤ 3 * 2 ^ j
-enough zero = omega arith
-enough (suc j) = rw pow-suc (omega (arith, enough j))
+pub draws-fit : (j : ℕ) → j + 3 ≤ 3 * 2 ^ j
+draws-fit zero = omega arith
+draws-fit (suc j) = rw pow-suc (omega (arith, draws-fit j))
 
 draws-more : (j : ℕ) → suc (suc j) + (ruleDraws j + ruleDraws j) ≡ ruleDraws (suc j)
 unfolding ruleDraws
-draws-more j = rw pow-suc (omega (arith, enough j))
+draws-more j = rw pow-suc (omega (arith, draws-fit j))
 
-unfoldable pub rulePlan : ℕ → ℕ → List ℕ
+unfoldable rulePlan : ℕ → ℕ → List ℕ
 rulePlan k j = replicate (ruleDraws j) (2 ^ k)
 
 plan-more : (k j : ℕ) → refreshPlan (boolean k) (suc (suc (suc j))) ++ (rulePlan k j ++ rulePlan k j) ≡ rulePlan k (suc j)
@@ -132,13 +132,13 @@ joined-value k v x w su sz h hv e u z =
 abbrev Keeps : ℕ → ℕ → Type 0
 Keeps k j = (v : ℕ) (xs : List ℕ) → Shares (boolean k) (suc (suc j)) v xs → Gives (Shares (arithmetic (2 ^ k)) (suc j) v) (rule k j xs) (rulePlan k j)
 
-after-refresh : (k j v : ℕ) → k ≤ 32 → Keeps k j → (ys : List ℕ) → Shares (boolean k) (suc (suc (suc j))) v ys →
+refreshed-keeps : (k j v : ℕ) → k ≤ 32 → Keeps k j → (ys : List ℕ) → Shares (boolean k) (suc (suc (suc j))) v ys →
     Gives (Shares (arithmetic (2 ^ k)) (suc (suc j)) v)
     (bind (rule k j (drop 1 ys)) (λ us. bind (rule k j (zOf k (length ys) (getD ys 0 0) (drop 1 ys))) (λ zs. done (added (2 ^ k) us zs)))) (rulePlan k j ++ rulePlan k j)
 unfolding xorAll fold
-after-refresh k j v h keeps [] b = absurd (omega (arith, b .words .size))
-after-refresh k j v h keeps (x ∷ []) b = absurd (omega (arith, b .words .size))
-after-refresh k j v h keeps (x ∷ u ∷ us) b =
+refreshed-keeps k j v h keeps [] b = absurd (omega (arith, b .words .size))
+refreshed-keeps k j v h keeps (x ∷ []) b = absurd (omega (arith, b .words .size))
+refreshed-keeps k j v h keeps (x ∷ u ∷ us) b =
     let w : ℕ = xorAll (u ∷ us) in
     let hx : x < 2 ^ k = words-head (b .words) in
     let wu : Words (suc (suc j)) (2 ^ k) (u ∷ us) = words-tail (b .words) in
@@ -152,7 +152,7 @@ after-refresh k j v h keeps (x ∷ u ∷ us) b =
       is = (added-sum (pow-pos k) (c .words) (d .words) ⨾ joined-value k v x w (sum rs) (sum ss) h hv (b .is) (c .is) (d .is)) .eq ∙ mod-eq-of-lt hv;
     }))
 
-pub rule-keeps : (k j v : ℕ) (xs : List ℕ) → k ≤ 32 → Shares (boolean k) (suc (suc j)) v xs → Gives (Shares (arithmetic (2 ^ k)) (suc j) v) (rule k j xs) (rulePlan k j)
+pub rule-keeps : (k j v : ℕ) (xs : List ℕ) → k ≤ 32 → Shares (boolean k) (suc (suc j)) v xs → Gives (Shares (arithmetic (2 ^ k)) (suc j) v) (rule k j xs) (replicate (3 * 2 ^ j - j - 3) (2 ^ k))
 unfolding rule rulePlan ruleDraws xorAll fold sum
 rule-keeps k zero v [] h a = absurd (omega (arith, a .words .size))
 rule-keeps k zero v (x ∷ []) h a = absurd (omega (arith, a .words .size))
@@ -160,17 +160,17 @@ rule-keeps k zero v (x ∷ y ∷ z ∷ xs) h a = absurd (omega (arith, a .words 
 rule-keeps k zero v (x ∷ y ∷ []) h a =
     let e : xor x y ≡ v = ap (xor x) (sym (xor-zero y)) ∙ a .is in
     let small : xor x y < 2 ^ k = xor-below k x y (words-head (a .words)) (words-head (words-tail (a .words))) in
-    gives-done (record { words = words-cons small (record { size = refl; below = λ i l. absurd (omega arith) }); is = ap (λ (n : ℕ). n % 2 ^ k) (omega arith) ∙ mod-eq-of-lt small ∙ e })
+    gives-done (record { words = words-cons small words-none; is = ap (λ (n : ℕ). n % 2 ^ k) (omega arith) ∙ mod-eq-of-lt small ∙ e })
 rule-keeps k (suc j) v xs h a =
     subst (Gives _ _) (plan-more k j)
-    (gives-bind _ (rulePlan k j ++ rulePlan k j) (refresh-keeps (boolean k) (pow-pos k) v xs (omega arith) a) (after-refresh k j v h (λ w ys. rule-keeps k j w ys h)))
+    (gives-bind _ (rulePlan k j ++ rulePlan k j) (refresh-keeps (boolean k) (pow-pos k) v xs (omega arith) a) (refreshed-keeps k j v h (λ w ys. rule-keeps k j w ys h)))
 
 -- ---- the conversion
 append-zero : (k v n : ℕ) (xs : List ℕ) → Shares (boolean k) n v xs → Shares (boolean k) (suc n) v (xs ++ (0 ∷ []))
 unfolding xorAll fold
 append-zero k v n xs a =
     record {
-      words = subst (λ (m : ℕ). Words m (2 ^ k) (xs ++ (0 ∷ []))) one (words-append xs (a .words) (words-cons (pow-pos k) (record { size = refl; below = λ i l. absurd (omega arith) })));
+      words = subst (λ (m : ℕ). Words m (2 ^ k) (xs ++ (0 ∷ []))) one (words-append xs (a .words) (words-cons (pow-pos k) words-none));
       is = same xs ∙ a .is;
     }
   where

@@ -16,7 +16,7 @@ use Rattle.shares.specs.Refresh.{refreshPlan}
 use Rattle.shift.specs.Shift.{shiftPlan}
 use Rattle.shift.proofs.FloorLaws.{shift-draws}
 use Rattle.convert.specs.ToArithmetic.{toArithmeticPlan}
-use Rattle.convert.proofs.ValueLaws.{enough, to-arithmetic-keeps}
+use Rattle.convert.proofs.ValueLaws.{draws-fit, to-arithmetic-keeps}
 use Rattle.switching.specs.ToModulus.{toModulusPlan}
 use Rattle.switching.proofs.ValueLaws.{to-modulus-keeps}
 use Rattle.gate.specs.Checks.{inside}
@@ -79,11 +79,11 @@ to-mod-q-unique μ = unique (toModQGadget μ)
 pub to-arithmetic-call-draws : (k n : ℕ) → 0 < n → length (plan (toArithmeticClaim k) n) ≡ 3 * 2 ^ (n - 1) - 3
 unfolding plan refreshPlan toArithmeticPlan
 to-arithmetic-call-draws k n h =
-    length-append (toArithmeticPlan k n) _ ∙ rw (length-replicate (3 * 2 ^ (n - 1) - n - 2) (2 ^ k), length-replicate (n - 1)) (omega (arith, enough (n - 1)))
+    length-append (toArithmeticPlan k n) _ ∙ rw (length-replicate (3 * 2 ^ (n - 1) - n - 2) (2 ^ k), length-replicate (n - 1)) (omega (arith, draws-fit (n - 1)))
 
 pub to-mod-q-call-draws : (μ n : ℕ) → 0 < n → length (plan (toModQClaim μ) n) ≡ 3 * 2 ^ (n - 1) - 3 + alpha n * ((n - 1) * (n - 1))
 unfolding plan refreshPlan toModulusPlan toArithmeticPlan
 to-mod-q-call-draws μ n h =
     length-append (toModulusPlan q μ n) _
     ∙ rw (length-append (toArithmeticPlan (μ + alpha n) n) (shiftPlan q (alpha n) n), shift-draws q (alpha n) n, length-replicate (3 * 2 ^ (n - 1) - n - 2) (2 ^ (μ + alpha n)), length-replicate (n - 1))
-    (omega (arith, enough (n - 1)))
+    (omega (arith, draws-fit (n - 1)))

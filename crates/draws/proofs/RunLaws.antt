@@ -46,6 +46,14 @@ module _ {A B : Type 0} (d : Draws A) (f : A → Draws B) (tape : List ℕ) (p :
   unfolding next after
   bind-ended e = run-bind d f tape p ∙ rw e
 
+-- the same of a program that is such a one
+module _ {A B : Type 0} {whole : Draws B} (d : Draws A) (f : A → Draws B) (tape : List ℕ) (p : Cursor) (e : whole ≡ bind d f) where
+  pub part-ran : {a : A} {q : Cursor} → run d tape p ≡ ran a q → run whole tape p ≡ run (f a) tape q
+  part-ran {a} {q} h = ap (λ c. run c tape p) e ∙ bind-ran d f tape p a q h
+
+  pub part-ended : run d tape p ≡ ended → ended ≡ run whole tape p
+  part-ended h = sym (ap (λ c. run c tape p) e ∙ bind-ended d f tape p h)
+
 module _ {A : Type 0} (M : ℕ) (k : ℕ → Draws A) (tape : List ℕ) (p : Cursor) where
   pub run-draw : (r : ℕ) (q : Cursor) → drawAt tape p M ≡ ran r q → run (draw M k) tape p ≡ run (k r) tape q
   unfolding run next after

@@ -5,7 +5,7 @@ use native.Mathlib.Nat.{mod-lt, mod-eq-of-lt, mod-add-mod, add-mod-mod, add-comm
 use native.Mathlib.Omega.{arith}
 use lib.Pow.{pow-pos}
 use Rattle.numbers.specs.Modulo.{addMod, subMod, xor}
-use Rattle.numbers.proofs.Cong.{Cong, cong-by, cong-add, cong-refl, cong-mod, _⨾_}
+use Rattle.numbers.proofs.Cong.{Cong, cong-by, cong-add, cong-refl, cong-mod, _⨾_, cong-small, cong-cancel, cong-sym}
 use Rattle.numbers.proofs.XorLaws as Xor
 
 pub record Group (M : ℕ) (add sub : ℕ → ℕ → ℕ) : Type 0 where
@@ -23,6 +23,11 @@ unfolding subMod
 sub-back M a b h =
     let l : b % M < M = mod-lt b h in
     cong-add cong-mod cong-refl ⨾ (cong-add (cong-refl {a = a + (M - b % M)}) (record { eq = sym (cong-mod {a = b} .eq) }) ⨾ cong-by 0 1 (omega arith))
+
+-- and no other number below M has that
+pub sub-only : {M r a : ℕ} (b : ℕ) → r < M → Cong M (r + b) a → r ≡ subMod M a b
+unfolding subMod
+sub-only {M} {r} {a} b h c = cong-small h (mod-lt _ (omega arith)) (cong-cancel b (c ⨾ cong-sym (sub-back M a b (omega arith))))
 
 pub sums : (M : ℕ) → 0 < M → Group M (addMod M) (subMod M)
 unfolding addMod subMod

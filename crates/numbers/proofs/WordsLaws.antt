@@ -10,6 +10,9 @@ use lib.ListN.{length, getD, set, take, drop, replicate, length-set, length-repl
 use lib.Seq.{length-take-le, take-nil, getD-set-same, getD-set-other, getD-take, take-set-lt, take-suc, take-suc-set}
 use Rattle.numbers.specs.Lists.{Words, change}
 
+pub words-none : {M : ℕ} → Words 0 M []
+words-none = record { size = refl; below = λ i h. absurd (omega arith) }
+
 pub words-head : {k M x : ℕ} {xs : List ℕ} → Words (suc k) M (x ∷ xs) → x < M
 words-head w = w .below 0 (omega arith)
 

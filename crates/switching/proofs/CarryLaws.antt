@@ -21,7 +21,7 @@ use Rattle.shares.specs.Sharing.{arithmetic}
 use Rattle.shares.proofs.SharingLaws.{Shares}
 use Rattle.shift.specs.Shift.{shift, shiftPlan}
 use Rattle.shift.proofs.FloorLaws.{shift-floor}
-use Rattle.switching.specs.Switching.{floors, raised, carries, without}
+use Rattle.switching.specs.Switching.{floors, raised, raisedShift, carries, without}
 use Rattle.switching.proofs.StepLaws.{without-words}
 
 -- ---- the floors, raised
@@ -66,7 +66,7 @@ pub record Carried (d m t c p P g : ℕ) (xs : List ℕ) : Type 0 where
 
 -- the one law of modulus switching: the carries of d + 1 shares recombine to X's own floor, a little off, and g times the number of wraps
 pub carries-give : {N : ℕ} (d m t c p P g : ℕ) (xs : List ℕ) → 0 < m → 0 < p → P * c ≡ p * 2 ^ t * g → Words (suc d) N xs → Carried d m t c p P g xs
-unfolding carries
+unfolding carries raisedShift
 carries-give d m t c p P g xs hm hp f w =
     let T : ℕ = 2 ^ t in
     let M : ℕ = T * m in

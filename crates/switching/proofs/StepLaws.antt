@@ -9,8 +9,8 @@ use lib.Pow.{pow-pos, pow-mono, shr-lt}
 use lib.Seq.{getD-take, length-take-le}
 use Rattle.numbers.specs.Modulo.{addMod, subMod}
 use Rattle.numbers.specs.Lists.{Words, change, along}
-use Rattle.numbers.proofs.Cong.{Cong, cong-by, cong-sym, cong-cancel, _⨾_}
-use Rattle.numbers.proofs.GroupLaws.{sub-back}
+use Rattle.numbers.proofs.Cong.{cong-by, cong-mod, cong-refl, cong-add, _⨾_}
+use Rattle.numbers.proofs.GroupLaws.{sub-only}
 use Rattle.numbers.proofs.WordsLaws.{words-take, take-change}
 use Rattle.numbers.proofs.AlongLaws.{along-same, take-along, words-along}
 use Rattle.shares.specs.Arrays.{Held}
@@ -24,10 +24,7 @@ less-fits {k} {p} {x} {m} e h f hx hm =
     omega (arith, mul-le-mul-right (m - e) l)
 
 pub less-is : (c x e m : ℕ) → e < m → (x + c * (m - e)) % m ≡ subMod m x (c * e)
-unfolding subMod
-less-is c x e m h =
-    let back : Cong m (x + c * (m - e) + c * e) x = cong-by 0 c (all (m - e) (omega arith)) in
-    cong-cancel (c * e) (back ⨾ cong-sym (sub-back m x (c * e) (omega arith))) .eq ∙ mod-eq-of-lt (mod-lt _ (omega arith))
+less-is c x e m h = sub-only (c * e) (mod-lt _ (omega arith)) (cong-add cong-mod cong-refl ⨾ cong-by 0 c (all (m - e) (omega arith)))
   where
     all : (w : ℕ) → w + e ≡ m → x + c * w + c * e + 0 * m ≡ x + c * m
     all w f = rw (← f) (omega arith)

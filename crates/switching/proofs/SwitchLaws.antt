@@ -10,7 +10,7 @@ use Rattle.numbers.specs.Lists.{along}
 use Rattle.tape.specs.declared.Cursor.{Cursor}
 use Rattle.tape.specs.Tape.{Ran, ended, ran}
 use Rattle.draws.specs.Draws.{Draws, done, bind, run}
-use Rattle.draws.proofs.RunLaws.{run-done, bind-ran, bind-ended}
+use Rattle.draws.proofs.RunLaws.{run-done, bind-ran, bind-ended, part-ran, part-ended}
 use Rattle.shift.specs.Shift.{shift}
 use Rattle.convert.specs.ToArithmetic.{toArithmetic}
 use Rattle.switching.specs.Switching.{raised, carries, without}
@@ -29,11 +29,11 @@ whole-is {n} {α} Q μ ws most is = let same : alpha (length (take n ws)) ≡ α
 
 module _ {n α : ℕ} (Q μ : ℕ) (ws tape : List ℕ) (p : Cursor) (most : n ≤ length ws) (is : α ≡ alpha n) where
   pub convert-ended : run (toArithmetic (μ + α) (take n ws)) tape p ≡ ended → ended ≡ run (toModulus Q μ (take n ws)) tape p
-  convert-ended e = sym (ap (λ d. run d tape p) (whole-is Q μ ws most is) ∙ bind-ended (toArithmetic (μ + α) (take n ws)) (after-convert Q μ α) tape p e)
+  convert-ended = part-ended _ _ tape p (whole-is Q μ ws most is)
 
   module _ {ys : List ℕ} {c : Cursor} (e : run (toArithmetic (μ + α) (take n ws)) tape p ≡ ran ys c) where
     converted : run (toModulus Q μ (take n ws)) tape p ≡ run (after-convert Q μ α ys) tape c
-    converted = ap (λ d. run d tape p) (whole-is Q μ ws most is) ∙ bind-ran (toArithmetic (μ + α) (take n ws)) (after-convert Q μ α) tape p ys c e
+    converted = part-ran _ _ tape p (whole-is Q μ ws most is) e
 
     pub carries-ended : run (carries Q α 1 (2 ^ μ) ys) tape c ≡ ended → ended ≡ run (toModulus Q μ (take n ws)) tape p
     unfolding after-convert

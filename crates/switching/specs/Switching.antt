@@ -1,4 +1,4 @@
--- Modulus switching, in the steps that the conversion to mod q, widening and Decompose have in common (document 01, "Steps").
+-- The steps of modulus switching (document 01, "Steps": the conversion to mod q, widening and, but for the last step, Decompose).
 use mathlib.Core.List.{List}
 use Prim.Native.Nat.{ℕ, _-_, _*_, _/_, _%_, _^_}
 use lib.ListN.{length, getD}
@@ -15,9 +15,13 @@ floors M c p xs = along (λ i x. x * c / p % M) xs
 unfoldable pub raised : ℕ → List ℕ → List ℕ
 raised M xs = change (λ x. addMod M x (length xs - 1)) 0 xs
 
--- the floors, with n - 1 added to the first, shifted by t from 2^t·m to m
+-- that, modulo 2^t·m, and a shift by t, to m
+unfoldable pub raisedShift : (m t : ℕ) → List ℕ → Draws (List ℕ)
+raisedShift m t xs = shift m t (raised (2 ^ t * m) xs)
+
+-- the floors of x·c/p, raised and shifted: shares of how often the sum wraps around
 unfoldable pub carries : (m t c p : ℕ) → List ℕ → Draws (List ℕ)
-carries m t c p xs = shift m t (raised (2 ^ t * m) (floors (2 ^ t * m) c p xs))
+carries m t c p xs = raisedShift m t (floors (2 ^ t * m) c p xs)
 
 -- share i is x_i − c·e_i mod M
 unfoldable pub without : ℕ → ℕ → List ℕ → List ℕ → List ℕ

@@ -1,6 +1,6 @@
 // Boolean shares of width mu to arithmetic ones modulo any modulus that leaves room for alpha more bits.
-use super::steps::carries;
-use super::steps::floors;
+use super::steps::quotients;
+use super::steps::raised_shift;
 use super::steps::without;
 use convert::to_arithmetic;
 use shares::Shared;
@@ -26,21 +26,21 @@ pub fn to_modulus(
 {
     let a = alpha(n);
     let k = mu + a;
-    let s = to_arithmetic(shares, n, k, cursor, tape);
-    if !s.ok {
+    let converted = to_arithmetic(shares, n, k, cursor, tape);
+    if !converted.ok {
         return Shared::ended();
     }
-    let x = s.words;
-    let c = s.cursor;
-    let t = carries(floors(x, mu), n, modulus, a, c, tape);
-    if !t.ok {
+    let x = converted.words;
+    let c = converted.cursor;
+    let carries = raised_shift(quotients(x, mu), n, modulus, a, c, tape);
+    if !carries.ok {
         return Shared::ended();
     }
-    let e = t.words;
-    let d = t.cursor;
+    let e = carries.words;
+    let after = carries.cursor;
     Shared {
         words: without(x, e, k, modulus),
-        cursor: d,
+        cursor: after,
         ok: true,
     }
 }

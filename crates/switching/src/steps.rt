@@ -12,11 +12,10 @@ ghost use Rattle.numbers.specs.Modulo.{subMod};
 ghost use Rattle.numbers.specs.Lists.{Words, along};
 ghost use Rattle.draws.specs.Draws.{run};
 ghost use Rattle.shares.specs.Arrays.{Held, Gave};
-ghost use Rattle.shift.specs.Shift.{shift};
-ghost use Rattle.switching.specs.Switching.{raised, without};
+ghost use Rattle.switching.specs.Switching.{raisedShift, without};
 
-// floor(x / 2^mu) of each word: it is far below the modulus of the shift, so nothing is reduced.
-pub fn floors(shares: [u32; 8], mu: u32) -> [u32; 8]
+// floor(x / 2^mu) of each word. Of a word below 2^(mu + alpha) it is below 2^alpha, so it needs no remainder.
+pub fn quotients(shares: [u32; 8], mu: u32) -> [u32; 8]
     requires { ⌜ mu ≤ 31 ⌝ }
     ensures { λ r. ⌜ r ≡ along (λ i x. x / 2 ^ mu) shares ⌝ }
 {
@@ -28,9 +27,16 @@ pub fn floors(shares: [u32; 8], mu: u32) -> [u32; 8]
 }
 
 // n - 1 added to the first of the floors, and the shift by t, from 2^t·m to m.
-pub fn carries(floors: [u32; 8], n: usize, m: u32, t: u32, cursor: Cursor, tape: &[u32]) -> Shared
+pub fn raised_shift(
+    floors: [u32; 8],
+    n: usize,
+    m: u32,
+    t: u32,
+    cursor: Cursor,
+    tape: &[u32],
+) -> Shared
     requires { ⌜ (t ≤ 31) × (2 ≤ m) × (2 ^ t * m < 2 ^ 32) × (n ≤ 2 ^ t * m) × Held 8 n (2 ^ t * m) floors ⌝ }
-    ensures { λ r. ⌜ Gave n m r (run (shift m t (raised (2 ^ t * m) (take n floors))) (now (tape .entry)) cursor) ⌝ }
+    ensures { λ r. ⌜ Gave n m r (run (raisedShift m t (take n floors)) (now (tape .entry)) cursor) ⌝ }
 {
     let mut words = floors;
     words[0] = add_mod(words[0], (n - 1) as u32, power(t) * m);

@@ -5,8 +5,8 @@ use Rattle.switching.proofs.conversion.to_modulus.Reads as reads
 use Rattle.switching.proofs.conversion.to_modulus.Lts as lts
 use Rattle.convert.proofs.to_arithmetic.Reads as to-arithmetic-reads
 use Rattle.shares.proofs.Shared.ended.Reads as ended-reads
-use Rattle.switching.proofs.steps.carries.Reads as carries-reads
-use Rattle.switching.proofs.steps.floors.Reads as floors-reads
+use Rattle.switching.proofs.steps.raised_shift.Reads as raised-shift-reads
+use Rattle.switching.proofs.steps.quotients.Reads as quotients-reads
 use Rattle.switching.proofs.steps.without.Reads as without-reads
 use Rattle.words.proofs.alpha.Reads as alpha-reads
 use mathlib.Core.Path.{_≡_, refl, sym, ap, _∙_}
@@ -23,8 +23,7 @@ use Rattle.numbers.proofs.WordsLaws.{words-up}
 use Rattle.draws.specs.Draws.{run}
 use Rattle.shares.specs.Arrays.{Held, Gave}
 use Rattle.shares.proofs.ArraysLaws.{held-below, given-as, gave, stopped, whole, cut-off}
-use Rattle.shift.specs.Shift.{shift}
-use Rattle.switching.specs.Switching.{raised, carries}
+use Rattle.switching.specs.Switching.{raisedShift, carries}
 use Rattle.switching.proofs.StepLaws.{floors-held, floors-take, without-take, without-words}
 use Rattle.switching.proofs.SwitchLaws.{convert-ended, carries-ended, switched}
 
@@ -57,18 +56,18 @@ held-x c =
     held-below (t .before .before .before .pre .3) (two (t .before)) (t .to-arithmetic .ensures .below (not-false _ (c .if1 .left)))
 
 -- and what the shift gave
-carried : (c : tie.After-carries) →
+carried : (c : tie.After-raised-shift) →
     let t = c .before .before .before .before .before .before in
     let a = t .before .before .before .args in
-    Gave (a .n) (a .modulus) (c .carries .result) (run (carries (a .modulus) (t .before .alpha .result) 1 (2 ^ a .mu) (take (a .n) (t .to-arithmetic .result .words))) (now (a .tape)) (t .to-arithmetic .result .cursor))
+    Gave (a .n) (a .modulus) (c .raised-shift .result) (run (carries (a .modulus) (t .before .alpha .result) 1 (2 ^ a .mu) (take (a .n) (t .to-arithmetic .result .words))) (now (a .tape)) (t .to-arithmetic .result .cursor))
 unfolding carries
 carried c =
     let e = c .before .before .before .before in
     let t = e .before .before in
     let s = t .before .before .before in
     let α = t .before .alpha .result in
-    given-as (c .carries .ensures) (ap (λ fs. run (shift (s .args .modulus) α (raised (2 ^ α * s .args .modulus) fs)) (now (s .args .tape)) (t .to-arithmetic .result .cursor))
-    (ap (take (s .args .n)) (c .before .floors .ensures) ∙ floors-take _ _ (s .pre .1) (held-x e)))
+    given-as (c .raised-shift .ensures) (ap (λ fs. run (raisedShift (s .args .modulus) α fs) (now (s .args .tape)) (t .to-arithmetic .result .cursor))
+    (ap (take (s .args .n)) (c .before .quotients .ensures) ∙ floors-take _ _ (s .pre .1) (held-x e)))
 
 -- src/conversion.rt:27:9
 alpha-requires : tie.Need-alpha-requires
@@ -94,16 +93,16 @@ returns c =
     cut-off (c .ended .ensures) (convert-ended _ _ _ _ _ (fit (t .before)) (t .before .alpha .ensures) (stopped (t .to-arithmetic .ensures) (c .before .if1 .taken)))
 
 -- src/conversion.rt:35:21
-floors-requires : tie.Need-floors-requires
-floors-requires c κs = search needs
+quotients-requires : tie.Need-quotients-requires
+quotients-requires c κs = search needs
 
 -- src/conversion.rt:35:9
-carries-requires : tie.Need-carries-requires
-carries-requires c κs =
+raised-shift-requires : tie.Need-raised-shift-requires
+raised-shift-requires c κs =
     let e = c .before .before .before in
     let a = e .before .before .before in
     let p = a .before .before .pre in
-    (omega (arith, short a), p .1, rw (a .alpha .ensures) (p .2), enough a, rw (c .floors .ensures) (floors-held _ _ (p .1) (held-x e)))
+    (omega (arith, short a), p .1, rw (a .alpha .ensures) (p .2), enough a, rw (c .quotients .ensures) (floors-held _ _ (p .1) (held-x e)))
 
 -- src/conversion.rt:37:9
 ended-requires-2 : tie.Need-ended-requires-2
@@ -124,7 +123,7 @@ without-requires c κs =
     let e = c .before .before in
     let r = e .before .before in
     let a = r .before .before .before .before .before .before .before in
-    (short a, a .before .before .pre .1, r .carries .ensures .below (not-false _ (e .if2 .left)))
+    (short a, a .before .before .pre .1, r .raised-shift .ensures .below (not-false _ (e .if2 .left)))
 
 -- src/conversion.rt:16:1
 returns-3 : tie.Need-returns-3
@@ -136,7 +135,7 @@ returns-3 c =
     let s = t .before .before .before in
     whole refl (rw (c .without .ensures) (without-words _ _ _ (omega (arith, s .pre .1)) (held-x x .all)))
     (switched _ _ _ _ _ (fit (t .before)) (t .before .alpha .ensures) (gave (t .to-arithmetic .ensures) (x .if1 .left)) (gave (carried r) (e .if2 .left))
-    (ap (take (s .args .n)) (c .without .ensures) ∙ without-take _ _ (s .args .n) (r .carries .result .words) (t .to-arithmetic .result .words)))
+    (ap (take (s .args .n)) (c .without .ensures) ∙ without-take _ _ (s .args .n) (r .raised-shift .result .words) (t .to-arithmetic .result .words)))
 
 pub to-modulus-spec : {M : Type 1} → statement M
 to-modulus-spec =
@@ -147,8 +146,8 @@ to-modulus-spec =
     to-arithmetic-requires
     ended-requires
     returns
-    floors-requires
-    carries-requires
+    quotients-requires
+    raised-shift-requires
     ended-requires-2
     returns-2
     without-requires

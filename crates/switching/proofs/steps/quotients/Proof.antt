@@ -1,8 +1,8 @@
 use borrow.Author.Needs.{needs}
-use Rattle.switching.proofs.steps.floors.Statement.{statement}
-use Rattle.switching.proofs.steps.floors.Tie as tie
-use Rattle.switching.proofs.steps.floors.Reads as reads
-use Rattle.switching.proofs.steps.floors.Lts as lts
+use Rattle.switching.proofs.steps.quotients.Statement.{statement}
+use Rattle.switching.proofs.steps.quotients.Tie as tie
+use Rattle.switching.proofs.steps.quotients.Reads as reads
+use Rattle.switching.proofs.steps.quotients.Lts as lts
 use mathlib.Core.Path.{refl}
 use Prim.Native.Nat.{_-_, _/_, _^_}
 use Rattle.numbers.proofs.AlongLaws.{Along, along-start, along-more, along-all}
@@ -53,8 +53,8 @@ loop-again c = along-more (c .before .loop .inv) (c .loop-test .taken) refl
 returns : tie.Need-returns Inv-loop μ-loop
 returns c = along-all (c .before .loop .inv) (c .loop-test .left)
 
-pub floors-spec : {M : Type 1} → statement M
-floors-spec =
+pub quotients-spec : {M : Type 1} → statement M
+quotients-spec =
     tie.close
     (tie.spec
     Inv-loop

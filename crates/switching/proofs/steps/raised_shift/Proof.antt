@@ -1,8 +1,8 @@
 use borrow.Author.Needs.{needs}
-use Rattle.switching.proofs.steps.carries.Statement.{statement}
-use Rattle.switching.proofs.steps.carries.Tie as tie
-use Rattle.switching.proofs.steps.carries.Reads as reads
-use Rattle.switching.proofs.steps.carries.Lts as lts
+use Rattle.switching.proofs.steps.raised_shift.Statement.{statement}
+use Rattle.switching.proofs.steps.raised_shift.Tie as tie
+use Rattle.switching.proofs.steps.raised_shift.Reads as reads
+use Rattle.switching.proofs.steps.raised_shift.Lts as lts
 use Rattle.shift.proofs.shift_by.Reads as shift-by-reads
 use Rattle.words.proofs.add_mod.Reads as add-mod-reads
 use Rattle.words.proofs.power.Reads as power-reads
@@ -15,6 +15,7 @@ use Rattle.draws.specs.Draws.{run}
 use Rattle.shift.specs.Shift.{shift}
 use Rattle.numbers.specs.Modulo.{addMod}
 use Rattle.shares.proofs.ArraysLaws.{held-at, given-as}
+use Rattle.switching.specs.Switching.{raisedShift}
 use Rattle.switching.proofs.StepLaws.{raised-held, raised-take}
 
 first : (c : tie.After-add-mod) →
@@ -58,13 +59,14 @@ shift-by-requires c κs = let p = c .before .before .before .pre in (p .0, p .1,
 
 -- src/steps.rt:31:1
 returns : tie.Need-returns
+unfolding raisedShift
 returns c =
     let a = c .before in
     let s = a .before .before .before in
     given-as (c .shift-by .ensures) (ap (λ xs. run (shift (s .args .m) (s .args .t) xs) (now (s .args .tape)) (s .args .cursor)) (raised-take (s .pre .4) (first a)))
 
-pub carries-spec : {M : Type 1} → statement M
-carries-spec =
+pub raised-shift-spec : {M : Type 1} → statement M
+raised-shift-spec =
     tie.close
     (tie.spec
     array-read-add-mod
