@@ -2,7 +2,7 @@
 -- (x ⊕ u) − u − c is x ⊕ c, and the next borrow is u's digit where x's is 1 and c where it is 0: both are affine in (u, c).
 use mathlib.Core.Path.{_≡_, refl, sym, ap, ap₂, subst, _∙_}
 use Prim.Native.Nat.{ℕ, zero, suc, _+_, _-_, _*_, _/_, _%_, _^_, _≤_, _<_}
-use native.Mathlib.Nat.{pow-suc, mod-lt, mod-add-mod, add-mod}
+use native.Mathlib.Nat.{pow-suc, mod-add-mod, add-mod}
 use native.Mathlib.Omega.{arith}
 use lib.Arith.{lt-one}
 use lib.Pow.{pow-pos, pow-add}

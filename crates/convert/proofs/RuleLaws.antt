@@ -11,7 +11,7 @@ use lib.Seq.{getD-take, length-take-le, take-suc-set}
 use Rattle.numbers.specs.Modulo.{xor}
 use Rattle.numbers.specs.Lists.{Words}
 use Rattle.numbers.proofs.XorLaws.{xor-below}
-use Rattle.numbers.proofs.WordsLaws.{words-cons, words-at, words-drop, words-set, words-same, take-rest}
+use Rattle.numbers.proofs.WordsLaws.{words-cons, words-drop, words-set, words-same, take-rest}
 use Rattle.tape.specs.declared.Cursor.{Cursor}
 use Rattle.tape.specs.Tape.{Ran, ended, ran}
 use Rattle.draws.specs.Draws.{Draws, done, bind, run}
@@ -19,7 +19,7 @@ use Rattle.draws.proofs.RunLaws.{run-done, bind-ran, bind-ended, part-ran, part
 use Rattle.shares.specs.Sharing.{boolean}
 use Rattle.shares.specs.Refresh.{refresh}
 use Rattle.shares.specs.Arrays.{Held, Copied, Given}
-use Rattle.shares.proofs.ArraysLaws.{held-at, held-of, copied-take, held-copied, given-as, whole}
+use Rattle.shares.proofs.ArraysLaws.{held-at, copied-take, held-copied, given-as, whole}
 use Rattle.convert.specs.ToArithmetic.{zOf, added, rule, toArithmetic}
 use Rattle.convert.proofs.ListLaws.{z-take}
 

@@ -1,12 +1,12 @@
 -- The rule recombines to the exclusive or of its shares: over any number of shares and any width up to 32, whatever the draws.
-use mathlib.Core.Path.{_≡_, refl, sym, ap, ap₂, subst, _∙_}
+use mathlib.Core.Path.{_≡_, refl, sym, ap, subst, _∙_}
 use mathlib.Core.Bool.{Bool, true, false}
 use mathlib.Core.List.{List, [], _∷_, _++_}
 use Prim.Native.Nat.{ℕ, zero, suc, _+_, _-_, _*_, _%_, _^_, _≤_, _<_}
 use native.Mathlib.Nat.{pow-suc, mod-lt, mod-eq-of-lt}
 use native.Mathlib.Omega.{arith}
 use native.Mathlib.Decide.{ℕ-discrete}
-use lib.ListN.{length, getD, take, drop, replicate, length-append, length-replicate, replicate-append-replicate}
+use lib.ListN.{length, getD, take, drop, replicate, replicate-append-replicate}
 use lib.Dec.{eqb}
 use lib.Pow.{pow-pos}
 use lib.Seq.{length-take-le, take-all}
@@ -25,11 +25,11 @@ use Rattle.draws.specs.Draws.{done, bind}
 use Rattle.draws.proofs.Outcomes.{Gives}
 use Rattle.draws.proofs.PlanLaws.{gives-bind, gives-map, gives-done}
 use Rattle.shares.specs.Sharing.{arithmetic, boolean}
-use Rattle.shares.specs.Refresh.{refresh, refreshPlan}
+use Rattle.shares.specs.Refresh.{refreshPlan}
 use Rattle.shares.proofs.SharingLaws.{Shares}
 use Rattle.shares.proofs.RefreshLaws.{refresh-keeps}
 use Rattle.convert.specs.ToArithmetic.{psi, psis, zOf, added, rule, toArithmetic, toArithmeticPlan}
-use Rattle.convert.proofs.ListLaws.{psi-below, z-words}
+use Rattle.convert.proofs.ListLaws.{z-words}
 use Rattle.convert.proofs.PsiLaws.{psi-add, psi-affine}
 
 -- ---- Z recombines to Ψ of x and what U recombines to

@@ -18,7 +18,7 @@ psi k x u = subMod (2 ^ 32) (xor x u) u % 2 ^ k
 unfoldable pub psis : ℕ → ℕ → List ℕ → List ℕ
 psis k x us = along (λ j u. psi k x u) us
 
--- Z, of s shares that are x and then us: Ψ of x and each of us, and the first of them is also combined with x if s is odd
+-- Z, of s shares that are x and then us: Ψ of x and each of us, and the first of them is also combined by exclusive or with x if s is odd
 unfoldable pub zOf : ℕ → ℕ → ℕ → List ℕ → List ℕ
 zOf k s x us = pick (eqb (s % 2) 1) (change (λ z. xor z x) 0 (psis k x us)) (psis k x us)
 

@@ -2,7 +2,7 @@
 use words::add_mod;
 use words::power;
 ghost use mathlib.Core.Path.{_≡_};
-ghost use Prim.Native.Nat.{_+_, _^_, _≤_, _<_};
+ghost use Prim.Native.Nat.{_+_, _^_, _≤_};
 ghost use lib.ListN.{take, drop};
 ghost use Rattle.numbers.specs.Lists.{Words};
 ghost use Rattle.shares.specs.Arrays.{Copied};

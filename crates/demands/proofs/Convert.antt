@@ -1,11 +1,11 @@
 -- Boolean to arithmetic, mod 2^k and mod q, meets the three demands, its answers are unique, and how many draws it makes.
-use mathlib.Core.Path.{_≡_, refl, subst, _∙_}
+use mathlib.Core.Path.{_≡_, refl, _∙_}
 use mathlib.Core.List.{List}
-use Prim.Native.Nat.{ℕ, suc, _+_, _-_, _*_, _%_, _^_, _≤_, _<_}
-use native.Mathlib.Nat.{mod-eq-of-lt, le-trans}
+use Prim.Native.Nat.{ℕ, _+_, _-_, _*_, _^_, _≤_, _<_}
+use native.Mathlib.Nat.{mod-eq-of-lt}
 use native.Mathlib.Omega.{arith}
 use lib.ListN.{length, length-append, length-replicate}
-use lib.Pow.{pow-pos, pow-mono}
+use lib.Pow.{pow-mono}
 use Rattle.numbers.specs.Modulo.{q}
 use Rattle.numbers.specs.Bits.{alpha}
 use Rattle.numbers.specs.Lists.{xorAll}
@@ -19,17 +19,15 @@ use Rattle.convert.specs.ToArithmetic.{toArithmeticPlan}
 use Rattle.convert.proofs.ValueLaws.{draws-fit, to-arithmetic-keeps}
 use Rattle.switching.specs.ToModulus.{toModulusPlan}
 use Rattle.switching.proofs.ValueLaws.{to-modulus-keeps}
-use Rattle.gate.specs.Checks.{inside}
 use Rattle.gate.specs.Told.{standsFor, silent}
 use Rattle.gate.specs.Gadget.{silentSteps, tells}
-use Rattle.gate.proofs.CheckLaws.{inside-yes, inside-out}
 use Rattle.gadgets.specs.Convert.{toArithmeticGadget, toModQGadget}
 use Rattle.gadgets.proofs.RangeLaws.{alpha-most}
 use Rattle.demands.specs.Claim.{plan}
 use Rattle.demands.specs.Demands.{Demands}
 use Rattle.demands.specs.Unique.{Unique}
 use Rattle.demands.specs.Convert.{toArithmeticClaim, toModQClaim}
-use Rattle.demands.proofs.Steps.{width-range, Steps}
+use Rattle.demands.proofs.Steps.{number-range, width-range, Steps}
 use Rattle.demands.proofs.Demands.{demands}
 use Rattle.demands.proofs.Unique.{unique}
 
@@ -48,13 +46,7 @@ to-mod-q-steps : (μ : ℕ) → Steps (toModQClaim μ)
 unfolding toModQGadget silentSteps xorAll
 to-mod-q-steps μ =
     record {
-      range =
-          record {
-            in-range = inside-out 1 20 μ;
-            range-in = λ r. inside-yes 1 20 μ (r .0) (r .1);
-            positive = λ r. omega arith;
-            word = λ r. omega arith;
-          };
+      range = number-range 20 μ q (omega arith) (λ h. omega arith);
       opens-fields = λ x. refl;
       give = λ r n least most xs w.
           let below : xorAll xs < 2 ^ μ = fold-below (xors μ) xs w in

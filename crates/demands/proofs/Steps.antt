@@ -31,15 +31,13 @@ pub record Range (inRange : Bool) (InRange : Type 0) (M : ℕ) : Type 0 where
   pub positive : InRange → 0 < M
   pub word : InRange → M ≤ 2 ^ 32
 
+-- a number from 1 to high
+pub number-range : (high k M : ℕ) → 0 < M → (k ≤ high → M ≤ 2 ^ 32) → Range (inside 1 high k) ((1 ≤ k) × (k ≤ high)) M
+number-range high k M h w = record { in-range = inside-out 1 high k; range-in = λ r. inside-yes 1 high k (r .0) (r .1); positive = λ r. h; word = λ r. w (r .1) }
+
 -- a width from 1 to 31
 pub width-range : (k : ℕ) → Range (inside 1 31 k) ((1 ≤ k) × (k ≤ 31)) (2 ^ k)
-width-range k =
-    record {
-      in-range = inside-out 1 31 k;
-      range-in = λ r. inside-yes 1 31 k (r .0) (r .1);
-      positive = λ r. pow-pos k;
-      word = λ r. pow-mono {i = k} {j = 32} (omega (arith, r .1));
-    }
+width-range k = number-range 31 k (2 ^ k) (pow-pos k) (λ h. pow-mono {i = k} {j = 32} (omega arith))
 
 pub record Steps (c : Claim) : Type 0 where
   -- the check of the parameters says what is claimed, and the output's modulus, or 2 to its width, is a word's

@@ -1,6 +1,6 @@
 -- What is claimed of a gadget that turns shares into shares, its parameters given: the demands are stated over this, once for all gadgets.
 use mathlib.Core.Path.{_≡_}
-use mathlib.Core.List.{List, _++_}
+use mathlib.Core.List.{List, [], _++_}
 use Prim.Native.Nat.{ℕ, _≤_}
 use lib.ListN.{length}
 use Rattle.numbers.specs.Lists.{Words}
@@ -18,6 +18,10 @@ pub record Claim : Type 1 where
   pub opens : ℕ → List ℕ
   -- what the value of its input and the value of its output are to each other: the plain function
   pub Plain : ℕ → ℕ → Type 0
+
+-- a gadget that opens nothing and keeps the value
+abbrev pub keeping : Gadget → Type 0 → (ℕ → List ℕ) → Claim
+keeping g InRange draws = record { gadget = g; InRange = InRange; draws = draws; opens = λ x. []; Plain = λ x y. y ≡ x }
 
 -- two shares to eight
 abbrev pub Counted : List ℕ → Type 0

@@ -5,7 +5,7 @@ use Prim.Native.Nat.{ℕ, _/_, _%_, _^_, _≤_}
 use Rattle.shift.specs.Shift.{shiftPlan}
 use Rattle.shift.specs.ToBoolean.{toBooleanPlan}
 use Rattle.gadgets.specs.Shift.{shiftGadget, toBooleanGadget}
-use Rattle.demands.specs.Claim.{Claim}
+use Rattle.demands.specs.Claim.{Claim, keeping}
 
 -- from modulo M to modulo M/2^t: the value becomes floor(x / 2^t)
 abbrev pub shiftClaim : ℕ → ℕ → Claim
@@ -20,11 +20,4 @@ shiftClaim M t =
 
 -- from a sum modulo 2^k to an exclusive or of width k: the value is kept
 abbrev pub toBooleanClaim : ℕ → Claim
-toBooleanClaim k =
-    record {
-      gadget = toBooleanGadget k;
-      InRange = (1 ≤ k) × (k ≤ 31);
-      draws = λ n. toBooleanPlan k n;
-      opens = λ x. [];
-      Plain = λ x y. y ≡ x;
-    }
+toBooleanClaim k = keeping (toBooleanGadget k) ((1 ≤ k) × (k ≤ 31)) (λ n. toBooleanPlan k n)

@@ -7,12 +7,11 @@ use native.Mathlib.Omega.{arith}
 use lib.ListN.{length, getD, set, take, replicate}
 use lib.Seq.{length-take-le, getD-take}
 use lib.Dec.{eqb}
-use borrow.Author.Tests.{ne-eqb}
 use Rattle.numbers.specs.Tests.{pick}
 use Rattle.numbers.specs.Modulo.{addMod, negMod}
 use Rattle.numbers.specs.Lists.{Words, change, along}
 use Rattle.numbers.proofs.GroupLaws.{sums}
-use Rattle.numbers.proofs.WordsLaws.{words-at, words-same, take-replicate, words-change, length-change, change-here, change-other}
+use Rattle.numbers.proofs.WordsLaws.{words-at, words-same, take-replicate, words-change}
 use Rattle.numbers.proofs.AlongLaws.{along-is, change-first, take-along, words-along}
 use Rattle.tape.specs.declared.Cursor.{Cursor}
 use Rattle.tape.specs.Tape.{Ran, ended, ran}

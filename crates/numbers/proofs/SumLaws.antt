@@ -81,11 +81,12 @@ unfolding sum fold along
 floor-high c p [] h = omega arith
 floor-high c p (x ∷ xs) h = omega (arith, floor-high c p xs h, lt-div-mul-add {a = x * c} h)
 
--- the floors of d + 1 numbers and d lie between the floor of the sum and that plus d
+-- x lies between low and low + d
 pub record Between (low d x : ℕ) : Type 0 where
   pub least : low ≤ x
   pub most : x ≤ low + d
 
+-- the floors of d + 1 numbers and d lie between the floor of the sum and that plus d
 pub floors-between : (c p d : ℕ) (xs : List ℕ) → 0 < p → length xs ≡ suc d → Between (sum xs * c / p) d (sum (along (λ i x. x * c / p) xs) + d)
 floors-between c p d xs h e =
     let F : ℕ = sum (along (λ i x. x * c / p) xs) in

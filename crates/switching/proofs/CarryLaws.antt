@@ -10,8 +10,8 @@ use lib.ListN.{length, getD}
 use lib.Pow.{pow-pos}
 use Rattle.numbers.specs.Modulo.{addMod, subMod}
 use Rattle.numbers.specs.Lists.{Words, fold, sum, change, along}
-use Rattle.numbers.proofs.Cong.{Cong, cong-by, cong-out, cong-eq, cong-mod, cong-add, cong-mul, cong-refl, cong-sym, cong-cancel, cong-part, via, _⨾_}
-use Rattle.numbers.proofs.WordsLaws.{words-change, words-at}
+use Rattle.numbers.proofs.Cong.{Cong, cong-by, cong-out, cong-eq, cong-mod, cong-add, cong-refl, cong-sym, cong-cancel, via, _⨾_}
+use Rattle.numbers.proofs.WordsLaws.{words-change}
 use Rattle.numbers.proofs.AlongLaws.{length-along, along-at, along-same, words-along}
 use Rattle.numbers.proofs.SumLaws.{Between, floors-between, sum-back, sum-scaled}
 use Rattle.draws.specs.Draws.{done, bind}
@@ -58,7 +58,7 @@ split-floor c p T P g X E e hp hT f =
     ap (λ (y : ℕ). (y / p + e) / T) inner ∙ ap (λ (y : ℕ). (y + e) / T) (add-mul-div-right (X * c) (T * (g * E)) hp)
     ∙ ap (λ (y : ℕ). y / T) outer ∙ add-mul-div-right (X * c / p + e) (g * E) hT
 
--- what an unknown e up to d does
+-- shares of the carries, off by at most d
 pub record Carried (d m t c p P g : ℕ) (xs : List ℕ) : Type 0 where
   pub off : ℕ
   pub most : off ≤ d
@@ -99,17 +99,24 @@ sum-without M c es xs h e =
     along-same _ _ xs (λ j l. ap (subMod M (getD xs j 0)) (sym (along-at (λ i x. c * x) es j (omega arith)))) in
     cong-add (cong-eq (ap sum same)) (cong-eq (sym (sum-scaled c es))) ⨾ sum-back M h xs ys size
 
--- where X's own floor vanishes, the carries are the wraps, and X is what is left: from a sum modulo P to one modulo M, which divides P·m
+-- the exact carry: where X's own floor vanishes, they recombine to the number of wraps
+pub carries-exact : {N : ℕ} (d m t c p P : ℕ) (xs : List ℕ) → 0 < m → 0 < p → P * c ≡ p * 2 ^ t → sum xs % P * c / p + d < 2 ^ t → Words (suc d) N xs →
+    Gives (Shares (arithmetic m) (suc d) (sum xs / P % m)) (carries m t c p xs) (shiftPlan m t (suc d))
+carries-exact d m t c p P xs hm hp f small w =
+    let a : Carried d m t c p P 1 xs = carries-give d m t c p P 1 xs hm hp (f ∙ sym (mul-one (p * 2 ^ t))) w in
+    let none : (sum xs % P * c / p + a .off) / 2 ^ t ≡ 0 = div-eq-of-lt (omega (arith, a .most)) in
+    let wraps : (sum xs % P * c / p + a .off) / 2 ^ t + 1 * (sum xs / P) ≡ sum xs / P = omega arith in
+    subst (λ (v : ℕ). Gives (Shares (arithmetic m) (suc d) (v % m)) (carries m t c p xs) (shiftPlan m t (suc d))) wraps (a .shares)
+
+-- and taken off they leave X: from a sum modulo P to one modulo M, which divides P·m
 pub switch-keeps : {N : ℕ} (d m t c p P M h : ℕ) (xs : List ℕ) → 0 < m → 0 < p → 0 < M → P * c ≡ p * 2 ^ t → P * m ≡ M * h → sum xs % P * c / p + d < 2 ^ t → Words (suc d) N xs →
     Gives (Shares (arithmetic M) (suc d) (sum xs % P % M)) (bind (carries m t c p xs) (λ es. done (without M P es xs))) (shiftPlan m t (suc d))
 switch-keeps d m t c p P M h xs hm hp hM f k small w =
     let X : ℕ = sum xs % P in
     let E : ℕ = sum xs / P in
-    let a : Carried d m t c p P 1 xs = carries-give d m t c p P 1 xs hm hp (f ∙ sym (mul-one (p * 2 ^ t))) w in
-    let none : (X * c / p + a .off) / 2 ^ t ≡ 0 = div-eq-of-lt (omega (arith, a .most)) in
-    gives-map _ (λ es. without M P es xs) (a .shares)
+    gives-map _ (λ es. without M P es xs) (carries-exact d m t c p P xs hm hp f small w)
     (λ es s.
-    let wraps : Cong m (sum es) E = cong-sym cong-mod ⨾ (cong-eq (s .is) ⨾ (cong-mod ⨾ cong-eq (rw none (omega arith)))) in
+    let wraps : Cong m (sum es) E = cong-sym cong-mod ⨾ (cong-eq (s .is) ⨾ cong-mod) in
     let scaled : Cong M (P * sum es) (P * E) =
     cong-by (E / m * h) (sum es / m * h) (omega (arith, ap (λ (y : ℕ). P * y) (cong-out wraps), ap (λ (y : ℕ). E / m * y) k, ap (λ (y : ℕ). sum es / m * y) k)) in
     let back : Cong M (sum (without M P es xs) + P * E) (X + P * E) =

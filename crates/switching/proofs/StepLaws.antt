@@ -14,7 +14,7 @@ use Rattle.numbers.proofs.GroupLaws.{sub-only}
 use Rattle.numbers.proofs.WordsLaws.{words-take, take-change}
 use Rattle.numbers.proofs.AlongLaws.{along-same, take-along, words-along}
 use Rattle.shares.specs.Arrays.{Held}
-use Rattle.shares.proofs.ArraysLaws.{held-at, held-below, held-set}
+use Rattle.shares.proofs.ArraysLaws.{held-below, held-set}
 use Rattle.switching.specs.Switching.{floors, raised, without}
 
 -- ---- x − 2^k·e mod m, as x + 2^k·(m − e)

@@ -1,19 +1,17 @@
 -- Laws of the conversion to mod Q, as the code goes through it: where the tape ends, and what it gives.
-use mathlib.Core.Path.{_≡_, refl, sym, ap, ap₂, subst, _∙_}
+use mathlib.Core.Path.{_≡_, sym, ap, _∙_}
 use mathlib.Core.List.{List}
-use Prim.Native.Nat.{ℕ, _+_, _*_, _^_, _≤_, _<_}
-use native.Mathlib.Omega.{arith}
+use Prim.Native.Nat.{ℕ, _+_, _^_, _≤_}
 use lib.ListN.{length, take}
 use lib.Seq.{length-take-le}
 use Rattle.numbers.specs.Bits.{alpha}
-use Rattle.numbers.specs.Lists.{along}
 use Rattle.tape.specs.declared.Cursor.{Cursor}
-use Rattle.tape.specs.Tape.{Ran, ended, ran}
+use Rattle.tape.specs.Tape.{ended, ran}
 use Rattle.draws.specs.Draws.{Draws, done, bind, run}
 use Rattle.draws.proofs.RunLaws.{run-done, bind-ran, bind-ended, part-ran, part-ended}
 use Rattle.shift.specs.Shift.{shift}
 use Rattle.convert.specs.ToArithmetic.{toArithmetic}
-use Rattle.switching.specs.Switching.{raised, carries, without}
+use Rattle.switching.specs.Switching.{carries, without}
 use Rattle.switching.specs.ToModulus.{toModulus}
 
 -- what follows the conversion mod 2^(μ + α), and the shift

@@ -1,11 +1,10 @@
 -- The conversion of Boolean shares of width μ to mod Q keeps the value: over any Q, any number of shares and any width that leaves α bits,
 -- whatever the draws.
-use mathlib.Core.Path.{_≡_, refl, sym, ap, subst, _∙_}
+use mathlib.Core.Path.{_≡_, sym, ap, subst, _∙_}
 use mathlib.Core.List.{List}
 use Prim.Native.Nat.{ℕ, suc, _+_, _-_, _*_, _/_, _%_, _^_, _≤_, _<_}
-use native.Mathlib.Nat.{mod-lt, mod-eq-of-lt, mul-comm, mul-one, div-eq-of-lt, le-trans}
+use native.Mathlib.Nat.{mul-comm, mul-one, div-eq-of-lt}
 use native.Mathlib.Omega.{arith}
-use lib.ListN.{length}
 use lib.Pow.{pow-pos, pow-add, pow-mono}
 use Rattle.numbers.specs.Bits.{alpha}
 use Rattle.numbers.specs.Lists.{Words, sum, xorAll}
@@ -19,7 +18,6 @@ use Rattle.draws.proofs.PlanLaws.{gives-bind}
 use Rattle.shares.specs.Sharing.{arithmetic, boolean}
 use Rattle.shares.proofs.SharingLaws.{Shares}
 use Rattle.shift.specs.Shift.{shiftPlan}
-use Rattle.convert.specs.ToArithmetic.{toArithmetic, toArithmeticPlan}
 use Rattle.convert.proofs.ValueLaws.{to-arithmetic-keeps}
 use Rattle.switching.specs.Switching.{carries, without}
 use Rattle.switching.specs.ToModulus.{toModulus, toModulusPlan}

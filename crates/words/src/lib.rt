@@ -1,4 +1,4 @@
-// Words below a modulus: sum, difference, negation, the reduction modulo q, and numbers of bits.
+// Words below a modulus: sum, difference, negation, the remainder by q and by any modulus, and numbers of bits.
 // Nothing here divides by a variable: some processors take longer for some operands.
 ghost use mathlib.Core.Path.{_≡_};
 ghost use Prim.Native.Nat.{_%_, _^_, _≤_, _<_};

@@ -58,7 +58,8 @@ fn leaves(shares: &[u64], width: u32, tape: &mut Tape) -> Option<Vec<u64>> {
 }
 
 /// A leaf's place, in binary, is the way to it: 0 for U, 1 for Z, the last choice lowest. Where two results meet, U's last share
-/// keeps its place, Z's goes one place on, and no other share moves: so a leaf ends in the share that its lowest ones count.
+/// keeps its place, Z's goes one place on, and no other share moves: so a leaf ends in the share, counted from 0,
+/// that is numbered by how many 1s its place ends with in binary.
 pub fn sum_of_boolean(shares: &[u64], width: u32, tape: &mut Tape) -> Option<Vec<u64>> {
     let mut sums = vec![0; shares.len()];
     for (place, leaf) in leaves(shares, width, tape)?.iter().enumerate() {

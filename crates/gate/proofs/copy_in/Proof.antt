@@ -1,15 +1,10 @@
 use borrow.Author.Needs.{needs}
-use mathlib.Core.Path.{_≡_, refl, _∙_}
-use Prim.Native.Nat.{ℕ, _-_, _≤_, _<_}
-use native.Mathlib.Nat.{le-antisymm}
-use native.Mathlib.Omega.{arith}
-use lib.ListN.{length, take, length-set}
-use lib.Seq.{take-length}
-use Rattle.numbers.specs.Lists.{Words}
-use Rattle.numbers.proofs.WordsLaws.{copy-more, words-at, words-set, words-same}
+use mathlib.Core.Path.{refl}
+use Prim.Native.Nat.{_-_}
+use lib.ListN.{length}
+use Rattle.shares.proofs.ArraysLaws.{Copying, copying-start, copying-more, copying-all}
 use Rattle.gate.proofs.copy_in.Statement.{statement}
 use Rattle.gate.proofs.copy_in.Tie as tie
-use Rattle.shares.proofs.ArraysLaws.{Copying, copying-start, copying-more, copying-all}
 
 abbrev Inv-loop : tie.InvT-loop
 Inv-loop shares words₀ i₀ words i = Copying 8 shares i words

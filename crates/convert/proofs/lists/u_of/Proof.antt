@@ -1,15 +1,13 @@
 use borrow.Author.Needs.{needs}
-use Rattle.convert.proofs.lists.u_of.Statement.{statement}
-use Rattle.convert.proofs.lists.u_of.Tie as tie
-use Rattle.convert.proofs.lists.u_of.Reads as reads
-use Rattle.convert.proofs.lists.u_of.Lts as lts
-use Prim.Native.Nat.{_-_, _≤_}
+use mathlib.Core.Path.{_≡_, sym, ap, _∙_}
+use Prim.Native.Nat.{_-_}
 use native.Mathlib.Omega.{arith}
 use native.Mathlib.Nat.{add-comm}
 use lib.ListN.{length, getD, drop, length-drop}
 use lib.Seq.{getD-drop}
-use mathlib.Core.Path.{_≡_, sym, ap, _∙_}
 use Rattle.shares.proofs.ArraysLaws.{Copying, copying-start, copying-more, copying-all}
+use Rattle.convert.proofs.lists.u_of.Statement.{statement}
+use Rattle.convert.proofs.lists.u_of.Tie as tie
 
 abbrev Inv-loop : tie.InvT-loop
 Inv-loop shares words₀ i₀ words i = (length (drop 1 shares) ≡ 8) × Copying 9 (drop 1 shares) i words
@@ -17,47 +15,37 @@ Inv-loop shares words₀ i₀ words i = (length (drop 1 shares) ≡ 8) × Copyin
 abbrev μ-loop : tie.MeasureT-loop
 μ-loop shares words₀ i₀ words i = 8 - i
 
--- src/lists.rt:25:5
 loop-holds : tie.Need-loop-holds Inv-loop μ-loop
 loop-holds c =
     let e : length (drop 1 (c .args .t1)) ≡ 8 = length-drop 1 (c .args .t1) ∙ search needs in
     (e, copying-start _ (omega arith))
 
--- src/lists.rt:26:27
 add-words : tie.Need-add-words Inv-loop μ-loop
 add-words c = search needs
 
--- src/lists.rt:26:20
 mul-words : tie.Need-mul-words Inv-loop μ-loop
 mul-words c = search needs
 
--- src/lists.rt:26:20
 array-read-words : tie.Need-array-read-words Inv-loop μ-loop
 array-read-words c = search needs
 
--- src/lists.rt:26:9
 mul-words-2 : tie.Need-mul-words-2 Inv-loop μ-loop
 mul-words-2 c = search needs
 
--- src/lists.rt:26:9
 array-write-words : tie.Need-array-write-words Inv-loop μ-loop
 array-write-words c = search needs
 
--- src/lists.rt:25:9
 add-i : tie.Need-add-i Inv-loop μ-loop
 add-i c = search needs
 
--- src/lists.rt:25:5
 loop-less : tie.Need-loop-less Inv-loop μ-loop
 loop-less c = search needs
 
--- src/lists.rt:25:5
 loop-again : tie.Need-loop-again Inv-loop μ-loop
 loop-again c =
     let (e, l) = c .before .loop .inv in
     (e, copying-more l (omega (arith, c .loop-test .taken)) (sym (getD-drop 1 (c .before .before .args .t1) _ 0 ∙ ap (λ j. getD (c .before .before .args .t1) j 0) (add-comm 1 _))))
 
--- src/lists.rt:21:1
 returns : tie.Need-returns Inv-loop μ-loop
 returns c = let (e, l) = c .before .loop .inv in copying-all l (omega (arith, c .loop-test .left))
 

@@ -1,15 +1,12 @@
 use borrow.Author.Needs.{needs}
+use mathlib.Core.Path.{_∙_}
+use Prim.Native.Nat.{_-_}
+use Rattle.numbers.proofs.AlongLaws.{Along, along-start, along-more, along-all}
+use Rattle.numbers.specs.Modulo.{xor}
+use Rattle.convert.specs.ToArithmetic.{psi, psis}
+use Rattle.convert.proofs.ListLaws.{z-odd, z-even}
 use Rattle.convert.proofs.lists.z_of.Statement.{statement}
 use Rattle.convert.proofs.lists.z_of.Tie as tie
-use Rattle.convert.proofs.lists.z_of.Reads as reads
-use Rattle.convert.proofs.lists.z_of.Lts as lts
-use Rattle.convert.proofs.lists.psi.Reads as psi-reads
-use Prim.Native.Nat.{_-_, _≤_}
-use Rattle.numbers.proofs.AlongLaws.{Along, along-start, along-more, along-all}
-use Rattle.convert.specs.ToArithmetic.{psi, psis, zOf}
-use mathlib.Core.Path.{_∙_}
-use Rattle.numbers.specs.Modulo.{xor}
-use Rattle.convert.proofs.ListLaws.{z-odd, z-even}
 
 abbrev Inv-loop : tie.InvT-loop
 Inv-loop x s k words₀ i₀ words i = Along 9 (λ j y. psi k x y) words₀ i words
@@ -17,56 +14,43 @@ Inv-loop x s k words₀ i₀ words i = Along 9 (λ j y. psi k x y) words₀ i wo
 abbrev μ-loop : tie.MeasureT-loop
 μ-loop x s k words₀ i₀ words i = 9 - i
 
--- src/lists.rt:36:5
 loop-holds : tie.Need-loop-holds Inv-loop μ-loop
 loop-holds c = along-start (search needs)
 
--- src/lists.rt:37:27
 mul-psi : tie.Need-mul-psi Inv-loop μ-loop
 mul-psi c = search needs
 
--- src/lists.rt:37:27
 array-read-psi : tie.Need-array-read-psi Inv-loop μ-loop
 array-read-psi c = search needs
 
--- src/lists.rt:37:20
 psi-requires : tie.Need-psi-requires Inv-loop μ-loop
 psi-requires c κs = search needs
 
--- src/lists.rt:37:9
 mul-words : tie.Need-mul-words Inv-loop μ-loop
 mul-words c = search needs
 
--- src/lists.rt:37:9
 array-write-words : tie.Need-array-write-words Inv-loop μ-loop
 array-write-words c = search needs
 
--- src/lists.rt:36:9
 add-i : tie.Need-add-i Inv-loop μ-loop
 add-i c = search needs
 
--- src/lists.rt:36:5
 loop-less : tie.Need-loop-less Inv-loop μ-loop
 loop-less c = search needs
 
--- src/lists.rt:36:5
 loop-again : tie.Need-loop-again Inv-loop μ-loop
 loop-again c = along-more (c .before .before .loop .inv) (c .before .loop-test .taken) (c .psi .ensures)
 
--- src/lists.rt:40:20
 array-read-words : tie.Need-array-read-words Inv-loop μ-loop
 array-read-words c = search needs
 
--- src/lists.rt:40:9
 array-write-words-2 : tie.Need-array-write-words-2 Inv-loop μ-loop
 array-write-words-2 c = search needs
 
--- src/lists.rt:31:1
 returns : tie.Need-returns Inv-loop μ-loop
 unfolding xor psis
 returns c = z-odd _ _ _ _ (c .if1 .taken) (along-all (c .before .before .loop .inv) (c .before .loop-test .left))
 
--- src/lists.rt:31:1
 returns-2 : tie.Need-returns-2 Inv-loop μ-loop
 unfolding psis
 returns-2 c = along-all (c .before .before .loop .inv) (c .before .loop-test .left) ∙ z-even _ _ _ _ (c .if1 .left)

@@ -1,13 +1,9 @@
 use borrow.Author.Needs.{needs}
+use mathlib.Core.Path.{refl}
+use Prim.Native.Nat.{_-_}
+use Rattle.shares.proofs.ArraysLaws.{Copying, copying-start, copying-more, copying-all}
 use Rattle.convert.proofs.nine.into_nine.Statement.{statement}
 use Rattle.convert.proofs.nine.into_nine.Tie as tie
-use Rattle.convert.proofs.nine.into_nine.Reads as reads
-use Rattle.convert.proofs.nine.into_nine.Lts as lts
-use Prim.Native.Nat.{_-_}
-use mathlib.Core.Path.{refl}
-use lib.Seq.{length-take-le}
-use Rattle.shares.proofs.ArraysLaws.{Copying, copying-start, copying-more, copying-all}
-use lib.ListN.{take}
 
 abbrev Inv-loop : tie.InvT-loop
 Inv-loop words out₀ i₀ out i = Copying 9 words i out
@@ -15,39 +11,30 @@ Inv-loop words out₀ i₀ out i = Copying 9 words i out
 abbrev μ-loop : tie.MeasureT-loop
 μ-loop words out₀ i₀ out i = 8 - i
 
--- src/nine.rt:19:5
 loop-holds : tie.Need-loop-holds Inv-loop μ-loop
 loop-holds c = copying-start _ (search needs)
 
--- src/nine.rt:20:18
 mul-out : tie.Need-mul-out Inv-loop μ-loop
 mul-out c = search needs
 
--- src/nine.rt:20:18
 array-read-out : tie.Need-array-read-out Inv-loop μ-loop
 array-read-out c = search needs
 
--- src/nine.rt:20:9
 mul-out-2 : tie.Need-mul-out-2 Inv-loop μ-loop
 mul-out-2 c = search needs
 
--- src/nine.rt:20:9
 array-write-out : tie.Need-array-write-out Inv-loop μ-loop
 array-write-out c = search needs
 
--- src/nine.rt:19:9
 add-i : tie.Need-add-i Inv-loop μ-loop
 add-i c = search needs
 
--- src/nine.rt:19:5
 loop-less : tie.Need-loop-less Inv-loop μ-loop
 loop-less c = search needs
 
--- src/nine.rt:19:5
 loop-again : tie.Need-loop-again Inv-loop μ-loop
 loop-again c = copying-more (c .before .loop .inv) (search needs) refl
 
--- src/nine.rt:15:1
 returns : tie.Need-returns Inv-loop μ-loop
 returns c = copying-all (c .before .loop .inv) (search needs)
 

@@ -4,8 +4,8 @@ use Prim.Native.Nat.{ℕ, _-_, _^_, _≤_, _<_}
 use native.Mathlib.Omega.{arith}
 use lib.ListN.{take}
 use lib.Pow.{pow-pos}
-use denote.Ref.{now}
 use borrow.Author.Tests.{not-false}
+use denote.Ref.{now}
 use Rattle.numbers.specs.Modulo.{xor}
 use Rattle.numbers.specs.Lists.{Words}
 use Rattle.numbers.proofs.WordsLaws.{words-at}
@@ -18,6 +18,8 @@ use Rattle.convert.proofs.ListLaws.{z-words}
 use Rattle.convert.proofs.RuleLaws.{rule-two, held-shorter, u-words, refresh-ended, u-ended, z-ended, rule-gave}
 use borrow.Fn.Kinds.{In}
 use borrow.Fn.PlainCycle.{Measures, is, falls, and}
+use Rattle.convert.proofs.rule.+rule.{statement}
+use Rattle.convert.proofs.rule.+rule.Tie.{close}
 use Rattle.convert.proofs.rule.rule.Reads as rule
 use Rattle.convert.proofs.rule.rule.Kinds as rule-kinds
 use Rattle.convert.proofs.rule.+rule.Lts-rule as rule-lts
@@ -26,8 +28,6 @@ use Rattle.convert.proofs.lists.u_of.Reads as u-of-reads
 use Rattle.convert.proofs.lists.z_of.Reads as z-of-reads
 use Rattle.shares.proofs.Shared.ended.Reads as ended-reads
 use Rattle.convert.proofs.nine.refresh_nine.Reads as refresh-nine-reads
-use Rattle.convert.proofs.rule.+rule.{statement}
-use Rattle.convert.proofs.rule.+rule.Tie.{close}
 
 abbrev μ-rule : Measures 1 rule-kinds.ps ℕ
 μ-rule κs a = a .1 .0

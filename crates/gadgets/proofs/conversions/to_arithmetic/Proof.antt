@@ -1,33 +1,21 @@
 use borrow.Author.Needs.{needs}
-use Rattle.gadgets.proofs.conversions.to_arithmetic.Statement.{statement}
-use Rattle.gadgets.proofs.conversions.to_arithmetic.Tie as tie
-use Rattle.gadgets.proofs.conversions.to_arithmetic.Reads as reads
-use Rattle.gadgets.proofs.conversions.to_arithmetic.Lts as lts
-use Rattle.convert.proofs.to_arithmetic.Reads as to-arithmetic-reads
-use Rattle.gate.proofs.copy_in.Reads as copy-in-reads
-use Rattle.gate.proofs.finish.Reads as finish-reads
-use Rattle.gate.proofs.first_failing.Reads as first-failing-reads
-use Rattle.gate.proofs.inside.Reads as inside-reads
-use Rattle.gate.proofs.refused.Reads as refused-reads
-use Rattle.gate.proofs.width_bound.Reads as width-bound-reads
-use Rattle.shares.proofs.close.Reads as close-reads
-use Rattle.tape.proofs.Cursor.start.Reads as start-reads
-use Rattle.words.proofs.power.Reads as power-reads
 use mathlib.Core.Path.{_≡_, sym, ap, _∙_}
-use Prim.Native.Nat.{_+_, _*_, _^_, _≤_, _<_}
+use Prim.Native.Nat.{_^_}
 use native.Mathlib.Omega.{arith}
 use lib.ListN.{length}
 use lib.Pow.{pow-mono}
 use denote.Ref.{now}
+use Rattle.tape.specs.Tape.{start}
+use Rattle.draws.specs.Draws.{bind, run}
+use Rattle.shares.specs.Sharing.{arithmetic, boolean}
+use Rattle.shares.specs.Refresh.{refresh}
+use Rattle.convert.specs.ToArithmetic.{toArithmetic}
 use Rattle.gate.specs.Checks.{inside, firstFailing, checks}
 use Rattle.gate.proofs.CheckLaws.{Passed, all-passed, inside-out, checked-width}
 use Rattle.gate.proofs.GadgetLaws.{silent-refused, silent-ran, closed-on-copy, held, held-given}
-use Rattle.shares.specs.Sharing.{arithmetic, boolean}
-use Rattle.tape.specs.Tape.{start}
-use Rattle.draws.specs.Draws.{bind, run}
-use Rattle.shares.specs.Refresh.{refresh}
-use Rattle.convert.specs.ToArithmetic.{toArithmetic}
 use Rattle.gadgets.specs.Convert.{toArithmeticGadget}
+use Rattle.gadgets.proofs.conversions.to_arithmetic.Statement.{statement}
+use Rattle.gadgets.proofs.conversions.to_arithmetic.Tie as tie
 
 number : (c : tie.After-first-failing) →
     let a = c .before .before .before .before .before .before .args in
@@ -39,61 +27,48 @@ good : (c : tie.Else1) →
     Passed (now (a .shares)) (length (now (a .out))) (inside 1 31 (a .k)) (2 ^ a .k)
 good c = all-passed _ _ _ _ (sym (number (c .before)) ∙ c .if1 .left)
 
--- src/conversions.rt:22:51
 inside-requires : tie.Need-inside-requires
 inside-requires c κs = search needs
 
--- src/conversions.rt:22:69
 width-bound-requires : tie.Need-width-bound-requires
 width-bound-requires c κs = search needs
 
--- src/conversions.rt:22:9
 first-failing-requires : tie.Need-first-failing-requires
 first-failing-requires c κs = search needs
 
--- src/conversions.rt:24:9
 refused-requires : tie.Need-refused-requires
 refused-requires c κs = search needs
 
--- src/conversions.rt:24:9
 returns : tie.Need-returns
 unfolding toArithmeticGadget
 returns c = silent-refused _ _ _ _ _ _ _ (number (c .before .before)) (c .before .if1 .taken) (c .refused .ensures _)
 
--- src/conversions.rt:27:36
 copy-in-requires : tie.Need-copy-in-requires
 copy-in-requires c κs = good c .most
 
--- src/conversions.rt:27:59
 start-requires : tie.Need-start-requires
 start-requires c κs = search needs
 
--- src/conversions.rt:27:9
 to-arithmetic-requires : tie.Need-to-arithmetic-requires
 to-arithmetic-requires c κs =
     let p = good (c .before .before) in
     let (low, high) = inside-out 1 31 _ (p .range) in
     (high, held p (pow-mono {i = 1} low) (c .before .copy-in .ensures))
 
--- src/conversions.rt:28:24
 power-requires : tie.Need-power-requires
 power-requires c κs = inside-out 1 31 _ (good (c .before .before .before) .range) .1
 
--- src/conversions.rt:28:12
 close-requires : tie.Need-close-requires
 close-requires c κs =
     let p = good (c .before .before .before .before) in
     rw (c .power .ensures) (held-given p (pow-mono {i = 1} (inside-out 1 31 _ (p .range) .0)) (c .before .to-arithmetic .ensures))
 
--- src/conversions.rt:28:5
 finish-requires : tie.Need-finish-requires
 finish-requires c κs = let p = good (c .before .before .before .before .before .before) in omega (arith, p .fits, p .most)
 
--- src/conversions.rt:19:1
 same-length : tie.Need-same-length
 same-length c = search needs
 
--- src/conversions.rt:19:1
 returns-2 : tie.Need-returns-2
 unfolding toArithmeticGadget
 returns-2 c =

@@ -1,20 +1,10 @@
 use borrow.Author.Needs.{needs}
-use Rattle.switching.proofs.conversion.to_modulus.Statement.{statement}
-use Rattle.switching.proofs.conversion.to_modulus.Tie as tie
-use Rattle.switching.proofs.conversion.to_modulus.Reads as reads
-use Rattle.switching.proofs.conversion.to_modulus.Lts as lts
-use Rattle.convert.proofs.to_arithmetic.Reads as to-arithmetic-reads
-use Rattle.shares.proofs.Shared.ended.Reads as ended-reads
-use Rattle.switching.proofs.steps.raised_shift.Reads as raised-shift-reads
-use Rattle.switching.proofs.steps.quotients.Reads as quotients-reads
-use Rattle.switching.proofs.steps.without.Reads as without-reads
-use Rattle.words.proofs.alpha.Reads as alpha-reads
-use mathlib.Core.Path.{_≡_, refl, sym, ap, _∙_}
-use Prim.Native.Nat.{_+_, _*_, _^_, _≤_, _<_}
+use mathlib.Core.Path.{refl, ap, _∙_}
+use Prim.Native.Nat.{_+_, _*_, _^_, _≤_}
 use native.Mathlib.Nat.{le-trans, mul-le-mul-left}
 use native.Mathlib.Omega.{arith}
 use lib.ListN.{length, take}
-use lib.Pow.{pow-pos, pow-mono}
+use lib.Pow.{pow-mono}
 use borrow.Author.Tests.{not-false}
 use denote.Ref.{now}
 use Rattle.numbers.specs.Bits.{alpha}
@@ -26,6 +16,8 @@ use Rattle.shares.proofs.ArraysLaws.{held-below, given-as, gave, stopped, whole
 use Rattle.switching.specs.Switching.{raisedShift, carries}
 use Rattle.switching.proofs.StepLaws.{floors-held, floors-take, without-take, without-words}
 use Rattle.switching.proofs.SwitchLaws.{convert-ended, carries-ended, switched}
+use Rattle.switching.proofs.conversion.to_modulus.Statement.{statement}
+use Rattle.switching.proofs.conversion.to_modulus.Tie as tie
 
 fit : (c : tie.After-alpha) → let s = c .before .before in s .args .n ≤ length (s .args .shares)
 fit c = let s = c .before .before in omega (arith, s .pre .3 .most, s .pre .3 .all .size)
@@ -69,34 +61,27 @@ carried c =
     given-as (c .raised-shift .ensures) (ap (λ fs. run (raisedShift (s .args .modulus) α fs) (now (s .args .tape)) (t .to-arithmetic .result .cursor))
     (ap (take (s .args .n)) (c .before .quotients .ensures) ∙ floors-take _ _ (s .pre .1) (held-x e)))
 
--- src/conversion.rt:27:9
 alpha-requires : tie.Need-alpha-requires
 alpha-requires c κs = search needs
 
--- src/conversion.rt:28:13
 add-k : tie.Need-add-k
 add-k c = search needs
 
--- src/conversion.rt:29:9
 to-arithmetic-requires : tie.Need-to-arithmetic-requires
 to-arithmetic-requires c κs = let p = c .before .before .pre in (short c, held-below (p .3) (two c) (words-up (wider c) (p .3 .all)))
 
--- src/conversion.rt:31:9
 ended-requires : tie.Need-ended-requires
 ended-requires c κs = search needs
 
--- src/conversion.rt:31:9
 returns : tie.Need-returns
 returns c =
     let t = c .before .before .before in
     let s = t .before .before .before in
     cut-off (c .ended .ensures) (convert-ended _ _ _ _ _ (fit (t .before)) (t .before .alpha .ensures) (stopped (t .to-arithmetic .ensures) (c .before .if1 .taken)))
 
--- src/conversion.rt:35:21
 quotients-requires : tie.Need-quotients-requires
 quotients-requires c κs = search needs
 
--- src/conversion.rt:35:9
 raised-shift-requires : tie.Need-raised-shift-requires
 raised-shift-requires c κs =
     let e = c .before .before .before in
@@ -104,11 +89,9 @@ raised-shift-requires c κs =
     let p = a .before .before .pre in
     (omega (arith, short a), p .1, rw (a .alpha .ensures) (p .2), enough a, rw (c .quotients .ensures) (floors-held _ _ (p .1) (held-x e)))
 
--- src/conversion.rt:37:9
 ended-requires-2 : tie.Need-ended-requires-2
 ended-requires-2 c κs = search needs
 
--- src/conversion.rt:37:9
 returns-2 : tie.Need-returns-2
 returns-2 c =
     let r = c .before .before .before in
@@ -117,7 +100,6 @@ returns-2 c =
     cut-off (c .ended2 .ensures) (carries-ended _ _ _ _ _ (fit (t .before)) (t .before .alpha .ensures) (gave (t .to-arithmetic .ensures) (e .if1 .left))
     (stopped (carried r) (c .before .if2 .taken)))
 
--- src/conversion.rt:42:16
 without-requires : tie.Need-without-requires
 without-requires c κs =
     let e = c .before .before in
@@ -125,7 +107,6 @@ without-requires c κs =
     let a = r .before .before .before .before .before .before .before in
     (short a, a .before .before .pre .1, r .raised-shift .ensures .below (not-false _ (e .if2 .left)))
 
--- src/conversion.rt:16:1
 returns-3 : tie.Need-returns-3
 returns-3 c =
     let e = c .before .before .before in

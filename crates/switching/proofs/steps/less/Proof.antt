@@ -1,47 +1,35 @@
 use borrow.Author.Needs.{needs}
-use Rattle.switching.proofs.steps.less.Statement.{statement}
-use Rattle.switching.proofs.steps.less.Tie as tie
-use Rattle.switching.proofs.steps.less.Reads as reads
-use Rattle.switching.proofs.steps.less.Lts as lts
-use Rattle.words.proofs.power.Reads as power-reads
-use Rattle.words.proofs.reduce.Reads as reduce-reads
-use mathlib.Core.Path.{_≡_, ap, _∙_}
-use Prim.Native.Nat.{_+_, _-_, _*_, _%_, _≤_, _<_, _^_}
+use mathlib.Core.Path.{ap, _∙_}
+use Prim.Native.Nat.{_+_, _-_, _*_, _%_, _<_, _^_}
 use native.Mathlib.Omega.{arith}
 use Rattle.switching.proofs.StepLaws.{less-fits, less-is}
+use Rattle.switching.proofs.steps.less.Statement.{statement}
+use Rattle.switching.proofs.steps.less.Tie as tie
 
 fits : (c : tie.After-power) → let a = c .before .args in a .x + c .power .result * (a .m - a .e) < 2 ^ 64
 fits c = less-fits _ (c .before .pre .0) (c .power .ensures) (search needs) (search needs)
 
--- src/steps.rt:45:23
 power-requires : tie.Need-power-requires
 power-requires c κs = search needs
 
--- src/steps.rt:45:23
 cast-reduce : tie.Need-cast-reduce
 cast-reduce c = search needs
 
--- src/steps.rt:45:42
 sub-reduce : tie.Need-sub-reduce
 sub-reduce c = search needs
 
--- src/steps.rt:45:41
 cast-reduce-2 : tie.Need-cast-reduce-2
 cast-reduce-2 c = search needs
 
--- src/steps.rt:45:23
 mul-reduce : tie.Need-mul-reduce
 mul-reduce c = let h = fits c in omega arith
 
--- src/steps.rt:45:12
 add-reduce : tie.Need-add-reduce
 add-reduce c = let h = fits c in omega arith
 
--- src/steps.rt:45:5
 reduce-requires : tie.Need-reduce-requires
 reduce-requires c κs = search needs
 
--- src/steps.rt:41:1
 returns : tie.Need-returns
 returns c =
     let a = c .before .before .args in

@@ -1,16 +1,13 @@
 use borrow.Author.Needs.{needs}
-use Rattle.switching.proofs.steps.without.Statement.{statement}
-use Rattle.switching.proofs.steps.without.Tie as tie
-use Rattle.switching.proofs.steps.without.Reads as reads
-use Rattle.switching.proofs.steps.without.Lts as lts
-use Rattle.switching.proofs.steps.less.Reads as less-reads
 use Prim.Native.Nat.{_-_, _*_, _^_}
+use native.Mathlib.Omega.{arith}
 use lib.ListN.{getD}
 use Rattle.numbers.specs.Modulo.{subMod}
-use Rattle.switching.specs.Switching.{without}
 use Rattle.numbers.proofs.AlongLaws.{Along, along-start, along-more, along-all}
 use Rattle.numbers.proofs.WordsLaws.{words-at}
-use native.Mathlib.Omega.{arith}
+use Rattle.switching.specs.Switching.{without}
+use Rattle.switching.proofs.steps.without.Statement.{statement}
+use Rattle.switching.proofs.steps.without.Tie as tie
 
 abbrev Inv-loop : tie.InvT-loop
 Inv-loop k m e words₀ i₀ words i = Along 8 (λ j x. subMod m x (2 ^ k * getD e j 0)) words₀ i words
@@ -18,51 +15,39 @@ Inv-loop k m e words₀ i₀ words i = Along 8 (λ j x. subMod m x (2 ^ k * getD
 abbrev μ-loop : tie.MeasureT-loop
 μ-loop k m e words₀ i₀ words i = 8 - i
 
--- src/steps.rt:53:5
 loop-holds : tie.Need-loop-holds Inv-loop μ-loop
 loop-holds c = along-start (search needs)
 
--- src/steps.rt:54:25
 mul-less : tie.Need-mul-less Inv-loop μ-loop
 mul-less c = search needs
 
--- src/steps.rt:54:25
 array-read-less : tie.Need-array-read-less Inv-loop μ-loop
 array-read-less c = search needs
 
--- src/steps.rt:54:35
 mul-less-2 : tie.Need-mul-less-2 Inv-loop μ-loop
 mul-less-2 c = search needs
 
--- src/steps.rt:54:35
 array-read-less-2 : tie.Need-array-read-less-2 Inv-loop μ-loop
 array-read-less-2 c = search needs
 
--- src/steps.rt:54:20
 less-requires : tie.Need-less-requires Inv-loop μ-loop
 less-requires c κs = let (k, two, w) = c .before .before .pre in (k, two, words-at (omega arith) w _)
 
--- src/steps.rt:54:9
 mul-words : tie.Need-mul-words Inv-loop μ-loop
 mul-words c = search needs
 
--- src/steps.rt:54:9
 array-write-words : tie.Need-array-write-words Inv-loop μ-loop
 array-write-words c = search needs
 
--- src/steps.rt:53:9
 add-i : tie.Need-add-i Inv-loop μ-loop
 add-i c = search needs
 
--- src/steps.rt:53:5
 loop-less : tie.Need-loop-less Inv-loop μ-loop
 loop-less c = search needs
 
--- src/steps.rt:53:5
 loop-again : tie.Need-loop-again Inv-loop μ-loop
 loop-again c = along-more (c .before .before .loop .inv) (c .before .loop-test .taken) (c .less .ensures)
 
--- src/steps.rt:48:1
 returns : tie.Need-returns Inv-loop μ-loop
 unfolding without
 returns c = along-all (c .before .loop .inv) (c .loop-test .left)
