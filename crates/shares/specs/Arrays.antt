@@ -26,7 +26,7 @@ pub record Copied (size : ℕ) (shares words : List ℕ) : Type 0 where
 unfoldable pub handed : ℕ → Bool → List ℕ → Cursor → Ran (List ℕ)
 handed n ok words c = pick ok (ran (take n words) c) ended
 
--- they stand for x, and all words of the array are below M
+-- they stand for x, and where the tape sufficed all words of the array are below M
 pub record Given (size n M : ℕ) (ok : Bool) (words : List ℕ) (c : Cursor) (x : Ran (List ℕ)) : Type 0 where
   pub is : handed n ok words c ≡ x
   pub below : ok ≡ true → Words size M words

@@ -15,11 +15,11 @@ floors M c p xs = along (λ i x. x * c / p % M) xs
 unfoldable pub raised : ℕ → List ℕ → List ℕ
 raised M xs = change (λ x. addMod M x (length xs - 1)) 0 xs
 
--- that, modulo 2^t·m, and a shift by t, to m
+-- n - 1 added to the first share modulo 2^t·m, and then the shift by t, from 2^t·m to m
 unfoldable pub raisedShift : (m t : ℕ) → List ℕ → Draws (List ℕ)
 raisedShift m t xs = shift m t (raised (2 ^ t * m) xs)
 
--- the floors of x·c/p, raised and shifted: shares of how often the sum wraps around
+-- the floors of x·c/p, raised and shifted
 unfoldable pub carries : (m t c p : ℕ) → List ℕ → Draws (List ℕ)
 carries m t c p xs = raisedShift m t (floors (2 ^ t * m) c p xs)
 
