@@ -6,9 +6,9 @@ mod shares;
 mod tally;
 
 use parameters::Pair;
+use params::Params;
 use tape::Cursor;
 use tape::Draw;
-use words::Q;
 
 fn text(s: &[u8]) {
     io::write_all(1, s);
@@ -29,7 +29,7 @@ fn numbers(words: &[u32]) {
 fn draw_below_q(a: u32, b: u32) {
     let tape = [a, b];
     text(b"draw");
-    let Draw::Got(r, c) = Cursor::start().draw(&tape, Q) else {
+    let Draw::Got(r, c) = Cursor::start().draw(&tape, Params::Q) else {
         text(b" ended\n");
         return;
     };

@@ -1,4 +1,5 @@
 // The lists that the rule makes: U, Z, and their results added. The maps go over all words of an array, which are all below 2^k.
+use params::Params;
 use words::add_mod;
 use words::power;
 ghost use mathlib.Core.Path.{_≡_};
@@ -21,7 +22,7 @@ pub fn u_of(shares: [u32; 9]) -> [u32; 9]
     ensures { λ r. ⌜ Copied 9 (drop 1 shares) r ⌝ }
 {
     let mut words = [0u32; 9];
-    for i in 0..8 {
+    for i in 0..Params::MOST {
         words[i] = shares[i + 1];
     }
     words
@@ -43,7 +44,12 @@ pub fn z_of(x: u32, u: [u32; 9], s: usize, k: u32) -> [u32; 9]
 }
 
 // The results of U and Z, n shares each, added; the last ones are kept apart.
-pub fn added(u: [u32; 8], z: [u32; 8], n: usize, k: u32) -> [u32; 8]
+pub fn added(
+    u: [u32; Params::MOST],
+    z: [u32; Params::MOST],
+    n: usize,
+    k: u32,
+) -> [u32; Params::MOST]
     requires { ⌜ (1 ≤ n) × (n ≤ 7) × (k ≤ 31) × Words 8 (2 ^ k) u × Words 8 (2 ^ k) z ⌝ }
     ensures { λ r. ⌜ Words 8 (2 ^ k) r × (take (n + 1) r ≡ added (2 ^ k) (take n u) (take n z)) ⌝ }
 {

@@ -1,5 +1,6 @@
 // Arrays of nine words: eight copied into one, and the Boolean refresh of up to nine shares.
 use super::SharedNine;
+use params::Params;
 use tape::Cursor;
 use tape::Draw;
 use words::power;
@@ -12,11 +13,11 @@ ghost use Rattle.shares.specs.Arrays.{Held, Copied};
 ghost use Rattle.convert.specs.Arrays.{GaveNine};
 
 // Eight words, with a ninth after them.
-pub fn into_nine(words: [u32; 8]) -> [u32; 9]
+pub fn into_nine(words: [u32; Params::MOST]) -> [u32; 9]
     ensures { λ r. ⌜ Copied 9 words r ⌝ }
 {
     let mut out = [0u32; 9];
-    for i in 0..8 {
+    for i in 0..Params::MOST {
         out[i] = words[i];
     }
     out

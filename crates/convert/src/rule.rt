@@ -4,6 +4,7 @@ use super::lists::u_of;
 use super::lists::z_of;
 use super::nine::into_nine;
 use super::nine::refresh_nine;
+use params::Params;
 use shares::Shared;
 use tape::Cursor;
 ghost use Prim.Native.Nat.{_-_, _^_, _≤_};
@@ -50,7 +51,13 @@ fn rule(shares: [u32; 9], s: usize, k: u32, cursor: Cursor, tape: &[u32]) -> Sha
     }
 }
 
-pub fn to_arithmetic(shares: [u32; 8], n: usize, k: u32, cursor: Cursor, tape: &[u32]) -> Shared
+pub fn to_arithmetic(
+    shares: [u32; Params::MOST],
+    n: usize,
+    k: u32,
+    cursor: Cursor,
+    tape: &[u32],
+) -> Shared
     requires { ⌜ (k ≤ 31) × Held 8 n (2 ^ k) shares ⌝ }
     ensures { λ r. ⌜ Gave n (2 ^ k) r (run (toArithmetic k (take n shares)) (now (tape .entry)) cursor) ⌝ }
 {

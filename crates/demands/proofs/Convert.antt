@@ -11,6 +11,7 @@ use Rattle.numbers.specs.Bits.{alpha}
 use Rattle.numbers.specs.Lists.{xorAll}
 use Rattle.numbers.proofs.GroupLaws.{xors}
 use Rattle.numbers.proofs.FoldLaws.{fold-below}
+use Rattle.params.proofs.RoomLaws.{alpha-most}
 use Rattle.draws.proofs.PlanLaws.{gives-map}
 use Rattle.shares.specs.Refresh.{refreshPlan}
 use Rattle.shift.specs.Shift.{shiftPlan}
@@ -22,7 +23,6 @@ use Rattle.switching.proofs.ValueLaws.{to-modulus-keeps}
 use Rattle.gate.specs.Told.{standsFor, silent}
 use Rattle.gate.specs.Gadget.{silentSteps, tells}
 use Rattle.gadgets.specs.Convert.{toArithmeticGadget, toModQGadget}
-use Rattle.gadgets.proofs.RangeLaws.{alpha-most}
 use Rattle.demands.specs.Claim.{plan}
 use Rattle.demands.specs.Demands.{Demands}
 use Rattle.demands.specs.Unique.{Unique}

@@ -1,16 +1,13 @@
 -- Laws of the ranges of parameters.
 use mathlib.Core.Path.{_≡_}
 use mathlib.Core.Bool.{true}
-use Prim.Native.Nat.{ℕ, _*_, _/_, _%_, _^_, _≤_, _<_}
+use Prim.Native.Nat.{ℕ, _*_, _/_, _%_, _^_, _≤_}
 use native.Mathlib.Nat.{div-add-mod', mul-le-mul-right}
 use native.Mathlib.Omega.{arith}
 use lib.Dec.{leb, eqb}
-use lib.Pow.{pow-pos, pow-mono}
+use lib.Pow.{pow-pos}
 use borrow.Author.Tests.{le-leb, leb-true, eq-eqb, eqb-true}
 use Rattle.numbers.specs.Tests.{both}
-use Rattle.numbers.specs.Modulo.{q}
-use Rattle.numbers.specs.Bits.{alpha}
-use Rattle.numbers.proofs.BitsLaws.{alpha-smallest}
 use Rattle.gate.specs.Checks.{inside}
 use Rattle.gate.proofs.CheckLaws.{both-left, both-right, inside-yes, inside-out}
 use Rattle.gadgets.specs.Shift.{shiftRange}
@@ -45,10 +42,3 @@ whole-power M t e = omega (arith, div-add-mod' M (2 ^ t))
 
 pub whole-least : (M t : ℕ) → M % 2 ^ t ≡ 0 → 2 ≤ M / 2 ^ t → 2 ≤ M
 whole-least M t e h = omega (arith, whole-power M t e, mul-le-mul-right (M / 2 ^ t) (pow-pos t))
-
--- for at most eight shares α is at most 3, which leaves room for 2^α·q in a word
-pub alpha-most : (n : ℕ) → n ≤ 8 → alpha n ≤ 3
-alpha-most n h = alpha-smallest n .least 3 h
-
-pub q-room : (n : ℕ) → n ≤ 8 → 2 ^ alpha n * q < 2 ^ 32
-q-room n h = let l : 2 ^ alpha n ≤ 2 ^ 3 = pow-mono (alpha-most n h) in omega arith

@@ -1,3 +1,4 @@
 pub mod Refresh
 pub mod Shift
 pub mod Convert
+pub mod Sample

@@ -6,10 +6,10 @@ use gate::first_failing;
 use gate::inside;
 use gate::refused;
 use gate::width_bound;
+use params::Params;
 use shares::close;
 use switching::to_modulus;
 use tape::Cursor;
-use words::Q;
 use words::power;
 ghost use mathlib.Core.Path.{_≡_};
 ghost use Rattle.gate.specs.Told.{standsFor};
@@ -36,6 +36,6 @@ pub fn to_mod_q(shares: &[u32], tape: &[u32], mu: u32, out: &mut [u32]) -> Answe
         return refused(number);
     }
     let n = shares.len();
-    let s = to_modulus(copy_in(shares), n, mu, Q, Cursor::start(), tape);
-    finish(close(s, n, Q, tape), out)
+    let s = to_modulus(copy_in(shares), n, mu, Params::Q, Cursor::start(), tape);
+    finish(close(s, n, Params::Q, tape), out)
 }

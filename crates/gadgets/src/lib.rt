@@ -1,6 +1,8 @@
-// The public gadgets. None has a `requires`: bad arguments are refused by number, and a refusal leaves the output slice as it was.
+// The public gadgets. None has a `requires`: bad arguments are refused by number, and a refusal leaves the output slice as it was, but for number 5 of the
+// polynomial sampler, which sets it to zeros.
 mod conversions;
 mod refreshes;
+mod samplers;
 mod shifts;
 
 pub use conversions::to_arithmetic;
@@ -8,5 +10,7 @@ pub use conversions::to_mod_q;
 pub use gate::Answer;
 pub use refreshes::refresh;
 pub use refreshes::refresh_boolean;
+pub use samplers::sample;
+pub use samplers::sample_polynomial;
 pub use shifts::shift;
 pub use shifts::to_boolean;

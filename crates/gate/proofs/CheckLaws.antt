@@ -1,9 +1,9 @@
 -- Laws of the checks: what the code's tests say of them, and what a check that all-passed says.
-use mathlib.Core.Path.{_≡_, refl, ap, subst, _∙_}
+use mathlib.Core.Path.{_≡_, refl, sym, ap, subst, _∙_}
 use mathlib.Core.List.{List, [], _∷_}
 use mathlib.Core.Bool.{Bool, true, false}
-use Prim.Native.Nat.{ℕ, zero, suc, _+_, _%_, _^_, _≤_, _<_}
-use native.Mathlib.Nat.{le-of-suc-le-suc, mod-eq-of-lt}
+use Prim.Native.Nat.{ℕ, zero, suc, _+_, _*_, _%_, _^_, _≤_, _<_}
+use native.Mathlib.Nat.{le-of-suc-le-suc, one-mul, mod-eq-of-lt}
 use native.Mathlib.Omega.{arith}
 use native.Mathlib.Numerals.{add-one}
 use lib.ListN.{length, getD, drop, drop-of-length-le}
@@ -12,7 +12,7 @@ use lib.Dec.{ltb, leb, eqb}
 use borrow.Author.Tests.{lt-ltb, le-ltb, le-leb, lt-leb, eq-eqb, ne-eqb, leb-true, ltb-true, eqb-true}
 use Rattle.numbers.specs.Tests.{both, pick}
 use Rattle.numbers.specs.Lists.{Words}
-use Rattle.gate.specs.Checks.{inside, allBelow, firstFailing, checks}
+use Rattle.gate.specs.Checks.{inside, allBelow, firstFailing, checksOf, checks}
 
 pub both-left : (a b : Bool) → both a b ≡ true → a ≡ true
 both-left true b e = refl
@@ -71,32 +71,92 @@ words-below {M = M} {xs = xs} w = go xs (λ i h. w .below i (omega (arith, w .si
     go [] f = refl
     go (y ∷ ys) f = rw (lt-ltb y M (f 0 (omega arith))) (go ys (λ i h. f (suc i) (omega arith)))
 
--- ---- the checks of a gadget on shares, in their order
-module _ (shares : List ℕ) (room : ℕ) (inRange : Bool) (M : ℕ) where
-  pub fails-1 : inside 2 8 (length shares) ≡ false → 1 ≡ firstFailing (checks shares room inRange M)
-  unfolding firstFailing checks
+-- ---- the checks in their order
+first : (b : Bool) (k m : ℕ) → pick b m k ≡ 0 → (k ≡ 0 → ⊥) → (b ≡ true) × (m ≡ 0)
+first true k m e n = (refl, e)
+first false k m e n = absurd (n e)
+
+module _ (n room words : ℕ) (inRange : Bool) (more : List (ℕ × Bool)) where
+  pub fails-1 : inside 2 8 n ≡ false → 1 ≡ firstFailing (checksOf n room words inRange more)
+  unfolding firstFailing checksOf
   fails-1 e = rw e
 
-  module _ (count : inside 2 8 (length shares) ≡ true) where
-    pub fails-2 : (room ≡ length shares → ⊥) → 2 ≡ firstFailing (checks shares room inRange M)
-    unfolding firstFailing checks
-    fails-2 n = rw (count, ne-eqb room (length shares) n)
+  module _ (count : inside 2 8 n ≡ true) where
+    pub fails-2 : (room ≡ words → ⊥) → 2 ≡ firstFailing (checksOf n room words inRange more)
+    unfolding firstFailing checksOf
+    fails-2 h = rw (count, ne-eqb room words h)
 
-    module _ (fits : room ≡ length shares) where
-      pub fails-3 : inRange ≡ false → 3 ≡ firstFailing (checks shares room inRange M)
-      unfolding firstFailing checks
-      fails-3 e = rw (count, eq-eqb room (length shares) fits, e)
+    module _ (fits : room ≡ words) where
+      pub fails-3 : inRange ≡ false → 3 ≡ firstFailing (checksOf n room words inRange more)
+      unfolding firstFailing checksOf
+      fails-3 e = rw (count, eq-eqb room words fits, e)
 
-      module _ (range : inRange ≡ true) where
-        pub fails-4 : allBelow M shares ≡ false → 4 ≡ firstFailing (checks shares room inRange M)
-        unfolding firstFailing checks
-        fails-4 e = rw (count, eq-eqb room (length shares) fits, range, e)
+      pub fails-later : inRange ≡ true → firstFailing more ≡ firstFailing (checksOf n room words inRange more)
+      unfolding firstFailing checksOf
+      fails-later e = rw (count, eq-eqb room words fits, e)
 
-        pub fails-none : allBelow M shares ≡ true → 0 ≡ firstFailing (checks shares room inRange M)
-        unfolding firstFailing checks
-        fails-none e = rw (count, eq-eqb room (length shares) fits, range, e)
+  -- what is known where none of these fails
+  pub record Counted : Type 0 where
+    pub least : 2 ≤ n
+    pub most : n ≤ 8
+    pub fits : room ≡ words
+    pub range : inRange ≡ true
+    pub later : firstFailing more ≡ 0
 
-  -- what is known where none fails
+  pub all-counted : firstFailing (checksOf n room words inRange more) ≡ 0 → Counted
+  unfolding firstFailing checksOf
+  all-counted e =
+      let (c, f) = first (inside 2 8 n) 1 _ e (λ z. omega arith) in
+      let (s, g) = first (eqb room words) 2 _ f (λ z. omega arith) in
+      let (r, h) = first inRange 3 _ g (λ z. omega arith) in
+      let (low, high) = inside-out 2 8 n c in
+      record { least = low; most = high; fits = eqb-true room words s; range = r; later = h }
+
+  -- one of these fails, whatever is checked later
+  pub fails-as : {k : ℕ} → k ≡ firstFailing (checksOf n room words inRange []) → ¬ (k ≡ 0) → k ≡ firstFailing (checksOf n room words inRange more)
+  unfolding firstFailing checksOf
+  fails-as e h = go (inside 2 8 n) (eqb room words) inRange e h
+    where
+      go : {k : ℕ} (a b c : Bool) → k ≡ pick a (pick b (pick c 0 3) 2) 1 → ¬ (k ≡ 0) → k ≡ pick a (pick b (pick c (firstFailing more) 3) 2) 1
+      go true true true e h = absurd (h e)
+      go true true false e h = e
+      go true false c e h = e
+      go false b c e h = e
+
+-- parameters out of range: some check fails
+pub fails-out : (n room words : ℕ) (more : List (ℕ × Bool)) {k : ℕ} → k ≡ firstFailing (checksOf n room words false more) → ¬ (k ≡ 0)
+fails-out n room words more e z =
+    let f : false ≡ true = all-counted n room words false more (sym e ∙ z) .range in
+    let w : _≡_ {A = ℕ} 0 1 = cc in
+    omega arith
+
+-- the numbers where there are no shares to check
+pub number-most : (n room words : ℕ) (inRange : Bool) → firstFailing (checksOf n room words inRange []) ≤ 3
+unfolding firstFailing checksOf
+number-most n room words inRange = go (inside 2 8 n) (eqb room words) inRange
+  where
+    go : (a b c : Bool) → pick a (pick b (pick c 0 3) 2) 1 ≤ 3
+    go true true true = omega arith
+    go true true false = omega arith
+    go true false c = omega arith
+    go false b c = omega arith
+
+-- one coefficient takes n words
+pub of-one : (n room : ℕ) (inRange : Bool) (more : List (ℕ × Bool)) {k : ℕ} → k ≡ firstFailing (checksOf n room (1 * n) inRange more) → k ≡ firstFailing (checksOf n room n inRange more)
+of-one n room inRange more e = rw (one-mul n) at e
+
+-- ---- and of the shares
+module _ (M : ℕ) (shares : List ℕ) where
+  pub below-fails : allBelow M shares ≡ false → 4 ≡ firstFailing ((4, allBelow M shares) ∷ [])
+  unfolding firstFailing
+  below-fails e = rw e
+
+  pub below-passes : allBelow M shares ≡ true → 0 ≡ firstFailing ((4, allBelow M shares) ∷ [])
+  unfolding firstFailing
+  below-passes e = rw e
+
+module _ (shares : List ℕ) (room : ℕ) (inRange : Bool) (M : ℕ) where
+  -- what is known where no check of a gadget on shares fails
   pub record Passed : Type 0 where
     pub least : 2 ≤ length shares
     pub most : length shares ≤ 8
@@ -107,16 +167,9 @@ module _ (shares : List ℕ) (room : ℕ) (inRange : Bool) (M : ℕ) where
   pub all-passed : firstFailing (checks shares room inRange M) ≡ 0 → Passed
   unfolding firstFailing checks
   all-passed e =
-      let (c, f) = first (inside 2 8 (length shares)) 1 _ e (λ z. omega arith) in
-      let (s, g) = first (eqb room (length shares)) 2 _ f (λ z. omega arith) in
-      let (r, h) = first inRange 3 _ g (λ z. omega arith) in
-      let (b, o) = first (allBelow M shares) 4 _ h (λ z. omega arith) in
-      let (low, high) = inside-out 2 8 (length shares) c in
-      record { least = low; most = high; fits = eqb-true room (length shares) s; range = r; below = below-words M shares b }
-    where
-      first : (b : Bool) (k m : ℕ) → pick b m k ≡ 0 → (k ≡ 0 → ⊥) → (b ≡ true) × (m ≡ 0)
-      first true k m e n = (refl, e)
-      first false k m e n = absurd (n e)
+      let c = all-counted (length shares) room (length shares) inRange ((4, allBelow M shares) ∷ []) e in
+      let (b, _) = first (allBelow M shares) 4 0 (c .later) (λ z. omega arith) in
+      record { least = c .least; most = c .most; fits = c .fits; range = c .range; below = below-words M shares b }
 
 -- the bound of a width that is in range
 bound-of-width : {k r : ℕ} → r ≡ 2 ^ (k % 32) → k ≤ 31 → r ≡ 2 ^ k
@@ -125,7 +178,7 @@ bound-of-width e h = e ∙ ap (λ (j : ℕ). 2 ^ j) (mod-eq-of-lt (omega arith))
 -- what was checked, of a range and a bound that were computed; the bound counts only where the parameters are in range
 pub checked : (shares : List ℕ) (room : ℕ) {k : ℕ} {a b : Bool} {M N : ℕ} → k ≡ firstFailing (checks shares room a M) → a ≡ b → (b ≡ true → M ≡ N) →
     k ≡ firstFailing (checks shares room b N)
-unfolding firstFailing checks
+unfolding firstFailing checks checksOf
 checked shares room {k} {a} {b} {M} {N} e f h = subst (λ (c : Bool). k ≡ firstFailing (checks shares room c M)) f e ∙ go b h
   where
     go : (c : Bool) → (c ≡ true → M ≡ N) → firstFailing (checks shares room c M) ≡ firstFailing (checks shares room c N)

@@ -1,8 +1,8 @@
 -- Laws of what a gadget tells.
-use mathlib.Core.Path.{_≡_, refl, sym, ap, ap₂, _∙_}
+use mathlib.Core.Path.{_≡_, refl, sym, ap, ap₂, subst, _∙_}
 use mathlib.Core.Bool.{Bool, true}
-use mathlib.Core.List.{List}
-use Prim.Native.Nat.{ℕ, _≤_}
+use mathlib.Core.List.{List, []}
+use Prim.Native.Nat.{ℕ, _*_, _≤_}
 use native.Mathlib.Omega.{arith}
 use lib.ListN.{length, take}
 use borrow.Author.Tests.{eq-eqb, ne-eqb}
@@ -15,35 +15,40 @@ use Rattle.shares.specs.Sharing.{Sharing, bound}
 use Rattle.shares.specs.Refresh.{refresh}
 use Rattle.shares.specs.declared.Shared.{Shared}
 use Rattle.shares.specs.Arrays.{Held, Copied, shared, Gave}
-use Rattle.gate.specs.Checks.{firstFailing, checks}
+use Rattle.gate.specs.Checks.{firstFailing, checksOf, checks}
 use Rattle.gate.specs.declared.Answer.{Answer}
-use Rattle.gate.specs.Told.{Told, refusal, silent, silentRan, ranTold, standsFor}
-use Rattle.gate.specs.Gadget.{Gadget, silentSteps, silentGadget, closed, checkNumber, tells}
-use Rattle.gate.proofs.CheckLaws.{Passed}
+use Rattle.gate.specs.Told.{Told, refusal, silent, silentRan, ranTold, Call, checkNumber, told, standsFor}
+use Rattle.gate.specs.Gadget.{silentSteps, silentGadget, closed, call, tells}
+use Rattle.gate.specs.Sampler.{Sampler, samplerCall, samples}
+use Rattle.gate.proofs.CheckLaws.{Passed, number-most}
 
-module _ (g : Gadget) (shares tape out : List ℕ) where
+module _ (c : Call) (tape : List ℕ) where
   -- no check fails
-  pub tells-passed : checkNumber g shares out ≡ 0 → tells g shares tape out ≡ ranTold (g .fields) (run (closed (g .output) (g .steps shares)) tape start) out
-  unfolding tells
-  tells-passed e = rw (eq-eqb (checkNumber g shares out) 0 e)
+  pub tells-passed : checkNumber c ≡ 0 → told c tape ≡ ranTold (c .fields) (run (c .program) tape start) (c .leaves 5)
+  unfolding told
+  tells-passed e = rw (eq-eqb (checkNumber c) 0 e)
 
   -- one does
-  pub tells-refused : (checkNumber g shares out ≡ 0 → ⊥) → tells g shares tape out ≡ refusal (g .fields) (checkNumber g shares out) out
-  unfolding tells
-  tells-refused n = rw (ne-eqb (checkNumber g shares out) 0 n)
+  pub tells-refused : (checkNumber c ≡ 0 → ⊥) → told c tape ≡ refusal (c .fields) (checkNumber c) (c .leaves (checkNumber c))
+  unfolding told
+  tells-refused n = rw (ne-eqb (checkNumber c) 0 n)
 
--- steps that open nothing, closed, are the steps and then the refresh
-pub closed-silent : (s : Sharing) (d : Draws (List ℕ)) (tape : List ℕ) (p : Cursor) → run (closed s (silentSteps d)) tape p ≡ silentRan (run (bind d (refresh s)) tape p)
-unfolding closed silentSteps bind next after silentRan run
-closed-silent s d tape p =
-    ap (λ e. run e tape p) (bind-assoc d (λ xs. done (silent xs)) (λ o. bind (refresh s (o .shares)) (λ zs. done (record { opened = o .opened; shares = zs })))
-    ∙ sym (bind-assoc d (refresh s) (λ zs. done (silent zs))))
-    ∙ run-bind (bind d (refresh s)) (λ zs. done (silent zs)) tape p
-    ∙ last (run (bind d (refresh s)) tape p)
+-- steps that open nothing, run
+pub run-silent : (d : Draws (List ℕ)) (tape : List ℕ) (p : Cursor) → run (silentSteps d) tape p ≡ silentRan (run d tape p)
+unfolding silentSteps next after silentRan run
+run-silent d tape p = run-bind d (λ xs. done (silent xs)) tape p ∙ last (run d tape p)
   where
     last : (x : Ran (List ℕ)) → next x (λ zs c. run (done (silent zs)) tape c) ≡ silentRan x
     last ended = refl
     last (ran zs c) = refl
+
+-- closed, they are the steps and then the refresh
+pub closed-silent : (s : Sharing) (d : Draws (List ℕ)) (tape : List ℕ) (p : Cursor) → run (closed s (silentSteps d)) tape p ≡ silentRan (run (bind d (refresh s)) tape p)
+unfolding closed silentSteps bind
+closed-silent s d tape p =
+    ap (λ e. run e tape p) (bind-assoc d (λ xs. done (silent xs)) (λ o. bind (refresh s (o .shares)) (λ zs. done (record { opened = o .opened; shares = zs })))
+    ∙ sym (bind-assoc d (refresh s) (λ zs. done (silent zs))))
+    ∙ run-silent (bind d (refresh s)) tape p
 
 -- what the code's answers stand for
 module _ (x : Ran (List ℕ)) (out : List ℕ) where
@@ -55,20 +60,44 @@ module _ (x : Ran (List ℕ)) (out : List ℕ) where
   unfolding ranTold standsFor silentRan
   told-ran e r f g = rw (e, f, g)
 
+-- a call keeps its promise where a check failed
+pub by-check : (c : Call) (tape : List ℕ) {k : ℕ} {t : Told} → k ≡ checkNumber c → (k ≡ 0 → ⊥) → t ≡ refusal (c .fields) k (c .leaves k) → t ≡ told c tape
+by-check c tape e n f = f ∙ ap (λ (m : ℕ). refusal (c .fields) m (c .leaves m)) e ∙ sym (tells-refused c tape (λ z. n (e ∙ z)))
+
 -- a public gadget that opens nothing keeps its promise: where a check failed, and where its steps ran
 module _ (inRange : Bool) (input output : Sharing) (steps : List ℕ → Draws (List ℕ)) (shares tape out : List ℕ) where
   pub silent-refused : {k : ℕ} {t : Told} → k ≡ firstFailing (checks shares (length out) inRange (bound input)) → (k ≡ 0 → ⊥) → t ≡ refusal 0 k out →
       t ≡ tells (silentGadget inRange input output steps) shares tape out
-  unfolding checkNumber
-  silent-refused e n f = f ∙ ap (λ (m : ℕ). refusal 0 m out) e ∙ sym (tells-refused (silentGadget inRange input output steps) shares tape out (λ z. n (e ∙ z)))
+  unfolding checkNumber tells
+  silent-refused e n f = by-check (call (silentGadget inRange input output steps) shares out) tape e n f
 
   pub silent-ran : {t : Told} {x : Ran (List ℕ)} → firstFailing (checks shares (length out) inRange (bound input)) ≡ 0 →
       t ≡ ranTold 0 (silentRan x) out → x ≡ run (bind (steps shares) (refresh output)) tape start →
       t ≡ tells (silentGadget inRange input output steps) shares tape out
-  unfolding checkNumber
+  unfolding checkNumber tells
   silent-ran e f h =
       f ∙ ap (λ y. ranTold 0 (silentRan y) out) h ∙ ap (λ y. ranTold 0 y out) (sym (closed-silent output (steps shares) tape start))
-      ∙ sym (tells-passed (silentGadget inRange input output steps) shares tape out e)
+      ∙ sym (tells-passed (call (silentGadget inRange input output steps) shares out) tape e)
+
+-- so does a sampler, whose range was found to be b, and which keeps its slice where a check fails
+module _ (g : Sampler) (n : ℕ) (tape out : List ℕ) (b : Bool) (found : b ≡ g .inRange) where
+  ranged : {k : ℕ} → k ≡ firstFailing (checksOf n (length out) (g .coefficients * n) b []) → k ≡ checkNumber (samplerCall g n out)
+  unfolding checkNumber
+  ranged e = e ∙ ap (λ (c : Bool). firstFailing (checksOf n (length out) (g .coefficients * n) c [])) found
+
+  pub sampler-refused : {k : ℕ} {t : Told} → ((m : ℕ) → m ≤ 3 → g .leaves m out ≡ out) → k ≡ firstFailing (checksOf n (length out) (g .coefficients * n) b []) → (k ≡ 0 → ⊥) →
+      t ≡ refusal 0 k out → t ≡ samples g n tape out
+  unfolding samples
+  sampler-refused {k} keeps e h f =
+      by-check (samplerCall g n out) tape (ranged e) h
+      (f ∙ ap (refusal 0 k) (sym (keeps k (subst (λ (m : ℕ). m ≤ 3) (sym e) (number-most n (length out) (g .coefficients * n) b)))))
+
+  pub sampler-ran : {t : Told} {x : Ran (List ℕ)} → 0 ≡ firstFailing (checksOf n (length out) (g .coefficients * n) b []) →
+      t ≡ ranTold 0 (silentRan x) (g .leaves 5 out) → x ≡ run (g .steps n out) tape start → t ≡ samples g n tape out
+  unfolding samples
+  sampler-ran e f h =
+      f ∙ ap (λ y. ranTold 0 (silentRan y) (g .leaves 5 out)) h ∙ ap (λ y. ranTold 0 y (g .leaves 5 out)) (sym (run-silent (g .steps n out) tape start))
+      ∙ sym (tells-passed (samplerCall g n out) tape (sym (ranged e)))
 
 -- steps that ran on the copied shares from the tape's start ran on the shares
 pub on-copy : (d : List ℕ → Draws (List ℕ)) {shares words : List ℕ} (tape : List ℕ) {room M : ℕ} {c : Cursor} {s : Shared} →

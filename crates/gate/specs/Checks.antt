@@ -20,6 +20,10 @@ unfoldable pub firstFailing : List (ℕ × Bool) → ℕ
 firstFailing [] = 0
 firstFailing (c ∷ cs) = pick (c .1) (firstFailing cs) (c .0)
 
--- the checks of a gadget on shares, with room for so many words in the output slice: the share count, the room, the parameters, the shares
+-- the share count n, the room in an output slice that is to have so many words, the parameters; then what else there is to check
+unfoldable pub checksOf : (n room words : ℕ) → Bool → List (ℕ × Bool) → List (ℕ × Bool)
+checksOf n room words inRange more = (1, inside 2 8 n) ∷ (2, eqb room words) ∷ (3, inRange) ∷ more
+
+-- of a gadget on shares: also the shares
 unfoldable pub checks : List ℕ → ℕ → Bool → ℕ → List (ℕ × Bool)
-checks shares room inRange M = (1, inside 2 8 (length shares)) ∷ (2, eqb room (length shares)) ∷ (3, inRange) ∷ (4, allBelow M shares) ∷ []
+checks shares room inRange M = checksOf (length shares) room (length shares) inRange ((4, allBelow M shares) ∷ [])

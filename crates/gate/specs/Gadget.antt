@@ -3,14 +3,11 @@ use mathlib.Core.Bool.{Bool}
 use mathlib.Core.List.{List}
 use Prim.Native.Nat.{ℕ}
 use lib.ListN.{length}
-use lib.Dec.{eqb}
-use Rattle.numbers.specs.Tests.{pick}
-use Rattle.tape.specs.Tape.{start}
-use Rattle.draws.specs.Draws.{Draws, done, bind, run}
+use Rattle.draws.specs.Draws.{Draws, done, bind}
 use Rattle.shares.specs.Sharing.{Sharing, bound}
 use Rattle.shares.specs.Refresh.{refresh}
-use Rattle.gate.specs.Checks.{firstFailing, checks}
-use Rattle.gate.specs.Told.{Told, refusal, Outcome, silent, ranTold}
+use Rattle.gate.specs.Checks.{checks}
+use Rattle.gate.specs.Told.{Told, Outcome, silent, Call, told}
 
 -- a gadget, its parameters given
 pub record Gadget : Type 0 where
@@ -36,12 +33,15 @@ silentGadget inRange input output steps = record { inRange = inRange; input = in
 unfoldable pub closed : Sharing → Draws Outcome → Draws Outcome
 closed s d = bind d (λ o. bind (refresh s (o .shares)) (λ zs. done (record { opened = o .opened; shares = zs })))
 
--- the number of the first check that fails, or 0
-unfoldable pub checkNumber : Gadget → List ℕ → List ℕ → ℕ
-checkNumber g shares out = firstFailing (checks shares (length out) (g .inRange) (bound (g .input)))
+-- a call of it; a refusal leaves the output slice unchanged
+abbrev pub call : Gadget → (shares out : List ℕ) → Call
+call g shares out =
+    record {
+      checks = checks shares (length out) (g .inRange) (bound (g .input));
+      program = closed (g .output) (g .steps shares);
+      fields = g .fields;
+      leaves = λ number. out;
+    }
 
--- what it tells: a refusal by the first check that fails, or what its steps and the closing refresh give on the tape
 unfoldable pub tells : Gadget → (shares tape out : List ℕ) → Told
-tells g shares tape out =
-    pick (eqb (checkNumber g shares out) 0) (ranTold (g .fields) (run (closed (g .output) (g .steps shares)) tape start) out)
-    (refusal (g .fields) (checkNumber g shares out) out)
+tells g shares tape out = told (call g shares out) tape

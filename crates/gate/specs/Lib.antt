@@ -1,3 +1,4 @@
 pub mod Checks
 pub mod Told
 pub mod Gadget
+pub mod Sampler

@@ -1,8 +1,13 @@
 -- What a caller gets back (document 01, "What a caller gets back").
+use mathlib.Core.Bool.{Bool}
 use mathlib.Core.List.{List, []}
 use Prim.Native.Nat.{ℕ}
 use lib.ListN.{replicate}
-use Rattle.tape.specs.Tape.{Ran, ended, ran}
+use lib.Dec.{eqb}
+use Rattle.numbers.specs.Tests.{pick}
+use Rattle.tape.specs.Tape.{Ran, ended, ran, start}
+use Rattle.draws.specs.Draws.{Draws, run}
+use Rattle.gate.specs.Checks.{firstFailing}
 use Rattle.gate.specs.declared.Answer.{Answer}
 
 -- the number; the other fields, which a gadget fills with the numbers that it opens; the words used; and the output slice
@@ -12,7 +17,7 @@ pub record Told : Type 0 where
   pub used : ℕ
   pub out : List ℕ
 
--- a refusal returns 0 in every other field, and the output slice stays unchanged
+-- a refusal returns 0 in every other field
 unfoldable pub refusal : ℕ → ℕ → List ℕ → Told
 refusal fields number out = record { number = number; opened = replicate fields 0; used = 0; out = out }
 
@@ -33,6 +38,26 @@ silentRan (ran xs c) = ran (silent xs) c
 unfoldable pub ranTold : ℕ → Ran Outcome → List ℕ → Told
 ranTold fields ended out = refusal fields 5 out
 ranTold fields (ran o c) out = record { number = 0; opened = o .opened; used = c .at; out = o .shares }
+
+-- a call, all but its tape given
+pub record Call : Type 0 where
+  pub checks : List (ℕ × Bool)
+  -- its draws, to the numbers that it opens and the shares that fill the output slice
+  pub program : Draws Outcome
+  -- how many numbers it opens
+  pub fields : ℕ
+  -- what a refusal with this number leaves in the output slice
+  pub leaves : ℕ → List ℕ
+
+-- the number of the first check that fails, or 0
+unfoldable pub checkNumber : Call → ℕ
+checkNumber c = firstFailing (c .checks)
+
+-- what it tells: a refusal by the first check that fails, or what its program gives on the tape
+unfoldable pub told : Call → (tape : List ℕ) → Told
+told c tape =
+    pick (eqb (checkNumber c) 0) (ranTold (c .fields) (run (c .program) tape start) (c .leaves 5))
+    (refusal (c .fields) (checkNumber c) (c .leaves (checkNumber c)))
 
 -- what an answer with no other field and the output slice stand for
 unfoldable pub standsFor : Answer → List ℕ → Told

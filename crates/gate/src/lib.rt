@@ -1,12 +1,13 @@
 // Between a caller's slices and arrays of shares: the checks in their order, the answer, and copies in and out.
+use params::Params;
 use shares::Shared;
 use words::power;
 ghost use mathlib.Core.Path.{_≡_};
-ghost use mathlib.Core.List.{List};
-ghost use Prim.Native.Nat.{ℕ, _%_, _^_, _≤_};
-ghost use lib.ListN.{length, take};
+ghost use mathlib.Core.List.{List, []};
+ghost use Prim.Native.Nat.{ℕ, _*_, _%_, _^_, _≤_};
+ghost use lib.ListN.{length, take, replicate};
 ghost use Rattle.shares.specs.Arrays.{Copied, shared};
-ghost use Rattle.gate.specs.Checks.{inside, allBelow, firstFailing, checks};
+ghost use Rattle.gate.specs.Checks.{inside, allBelow, firstFailing, checksOf, checks};
 ghost use Rattle.gate.specs.Told.{refusal, silentRan, ranTold, standsFor};
 
 // What a caller gets back: 0, or the number of a refusal; and how many tape words were read, 0 in a refusal.
@@ -42,22 +43,34 @@ fn all_below(shares: &[u32], m: u32) -> bool
     true
 }
 
-// The number of the first check that fails, or 0: no share is looked at before the parameters are found to be in range.
-pub fn first_failing(shares: &[u32], room: usize, in_range: bool, m: u32) -> u32
-    ensures { λ r. ⌜ r ≡ firstFailing (checks (now (shares .entry)) room in_range m) ⌝ }
+// The number of the first check that fails, or 0, where the share count is stated and there are no shares to look at.
+// The words of so many coefficients are counted only once n is known to be small.
+pub fn first_stated(n: usize, coefficients: usize, room: usize, in_range: bool) -> u32
+    requires { ⌜ coefficients ≤ 256 ⌝ }
+    ensures { λ r. ⌜ r ≡ firstFailing (checksOf n room (coefficients * n) in_range []) ⌝ }
 {
-    let n = shares.len();
     if n < 2 {
         return 1;
     }
-    if 8 < n {
+    if Params::MOST < n {
         return 1;
     }
-    if room != n {
+    if room != coefficients * n {
         return 2;
     }
     if !in_range {
         return 3;
+    }
+    0
+}
+
+// The same with shares: none is looked at before the parameters are found to be in range.
+pub fn first_failing(shares: &[u32], room: usize, in_range: bool, m: u32) -> u32
+    ensures { λ r. ⌜ r ≡ firstFailing (checks (now (shares .entry)) room in_range m) ⌝ }
+{
+    let number = first_stated(shares.len(), 1, room, in_range);
+    if number != 0 {
+        return number;
     }
     if !all_below(shares, m) {
         return 4;
@@ -65,11 +78,11 @@ pub fn first_failing(shares: &[u32], room: usize, in_range: bool, m: u32) -> u32
     0
 }
 
-pub fn copy_in(shares: &[u32]) -> [u32; 8]
+pub fn copy_in(shares: &[u32]) -> [u32; Params::MOST]
     requires { ⌜ length (now shares) ≤ 8 ⌝ }
     ensures { λ r. ⌜ Copied 8 (now (shares .entry)) r ⌝ }
 {
-    let mut words = [0u32; 8];
+    let mut words = [0u32; Params::MOST];
     let mut i = 0;
     while i < shares.len() {
         words[i] = shares[i];
@@ -78,13 +91,23 @@ pub fn copy_in(shares: &[u32]) -> [u32; 8]
     words
 }
 
-fn copy_out(words: [u32; 8], out: &mut [u32])
+pub fn copy_out(words: [u32; Params::MOST], out: &mut [u32])
     requires { ⌜ length (now out) ≤ 8 ⌝ }
     ensures { λ _. ⌜ now (out .exit) ≡ take (length (now (out .entry))) words ⌝ }
 {
     let mut i = 0;
     while i < out.len() {
         out[i] = words[i];
+        i += 1;
+    }
+}
+
+pub fn clear(out: &mut [u32])
+    ensures { λ _. ⌜ now (out .exit) ≡ replicate (length (now (out .entry))) 0 ⌝ }
+{
+    let mut i = 0;
+    while i < out.len() {
+        out[i] = 0;
         i += 1;
     }
 }

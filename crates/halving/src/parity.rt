@@ -1,4 +1,5 @@
 // Shares of the parity of the sum of the shares.
+use params::Params;
 use shares::Shared;
 use shares::refresh;
 use tape::Cursor;
@@ -30,19 +31,19 @@ fn joined(i: usize, p: u32, x: u32, modulus: u32) -> u32
     if i == 0 { add_mod(y, p, modulus) } else { y }
 }
 
-fn join(words: [u32; 8], p: u32, modulus: u32) -> [u32; 8]
+fn join(words: [u32; Params::MOST], p: u32, modulus: u32) -> [u32; Params::MOST]
     requires { ⌜ Words 8 modulus words × (2 ≤ modulus) × (p < 2) ⌝ }
     ensures { λ r. ⌜ r ≡ join modulus p words ⌝ }
 {
     let mut out = words;
-    for i in 0..8 {
+    for i in 0..Params::MOST {
         out[i] = joined(i, p, out[i], modulus);
     }
     out
 }
 
 pub fn shared_parity(
-    shares: [u32; 8],
+    shares: [u32; Params::MOST],
     n: usize,
     modulus: u32,
     cursor: Cursor,

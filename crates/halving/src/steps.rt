@@ -1,5 +1,6 @@
 // One halving, 2m to m, in the steps of document 01.
 use super::parity::shared_parity;
+use params::Params;
 use shares::Shared;
 use tape::Cursor;
 use words::add_mod;
@@ -13,19 +14,23 @@ ghost use Rattle.shares.specs.Arrays.{Held, Gave};
 ghost use Rattle.halving.specs.Halving.{less, evened, halves, halving};
 ghost use Rattle.halving.specs.AtOnce.{gathered, settled};
 
-fn subtract(shares: [u32; 8], a: [u32; 8], modulus: u32) -> [u32; 8]
+fn subtract(
+    shares: [u32; Params::MOST],
+    a: [u32; Params::MOST],
+    modulus: u32,
+) -> [u32; Params::MOST]
     requires { ⌜ Words 8 modulus shares × Words 8 modulus a ⌝ }
     ensures { λ r. ⌜ r ≡ less modulus a shares ⌝ }
 {
     let mut words = shares;
-    for i in 0..8 {
+    for i in 0..Params::MOST {
         words[i] = sub_mod(words[i], a[i], modulus);
     }
     words
 }
 
 // The last share with the parities of the others added.
-fn gathered(shares: [u32; 8], last: usize, modulus: u32) -> u32
+fn gathered(shares: [u32; Params::MOST], last: usize, modulus: u32) -> u32
     requires { ⌜ Words 8 modulus shares × (2 ≤ modulus) × (last < 8) ⌝ }
     ensures { λ r. ⌜ (r < modulus) × (r ≡ gathered modulus shares last last) ⌝ }
 {
@@ -43,30 +48,30 @@ fn settled(i: usize, x: u32, last: usize, end: u32) -> u32
 }
 
 // The parities are gathered first and each word is then written once, which is the same as moving one parity after another.
-fn move_parities(shares: [u32; 8], n: usize, modulus: u32) -> [u32; 8]
+fn move_parities(shares: [u32; Params::MOST], n: usize, modulus: u32) -> [u32; Params::MOST]
     requires { ⌜ Held 8 n modulus shares ⌝ }
     ensures { λ r. ⌜ Words 8 modulus r × (take n r ≡ evened modulus (take n shares)) ⌝ }
 {
     let last = n - 1;
     let end = gathered(shares, last, modulus);
     let mut words = shares;
-    for i in 0..8 {
+    for i in 0..Params::MOST {
         words[i] = settled(i, words[i], last, end);
     }
     words
 }
 
-fn halve_all(shares: [u32; 8]) -> [u32; 8]
+fn halve_all(shares: [u32; Params::MOST]) -> [u32; Params::MOST]
     ensures { λ r. ⌜ r ≡ halves shares ⌝ }
 {
     let mut words = shares;
-    for i in 0..8 {
+    for i in 0..Params::MOST {
         words[i] = words[i] / 2;
     }
     words
 }
 
-pub fn halve(shares: [u32; 8], n: usize, m: u32, cursor: Cursor, tape: &[u32]) -> Shared
+pub fn halve(shares: [u32; Params::MOST], n: usize, m: u32, cursor: Cursor, tape: &[u32]) -> Shared
     requires { ⌜ Held 8 n (2 * m) shares × (m ≤ 2147483647) ⌝ }
     ensures { λ r. ⌜ Gave n m r (run (halving m (take n shares)) (now (tape .entry)) cursor) ⌝ }
 {

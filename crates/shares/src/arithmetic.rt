@@ -1,5 +1,6 @@
 // Refresh mod m. The last share stays in a local while the draws go by: a store at every turn would make the next turn wait.
 use super::Shared;
+use params::Params;
 use tape::Cursor;
 use tape::Draw;
 use words::add_mod;
@@ -10,7 +11,13 @@ ghost use Rattle.shares.specs.Sharing.{arithmetic};
 ghost use Rattle.shares.specs.Refresh.{refresh};
 ghost use Rattle.shares.specs.Arrays.{Held, Gave};
 
-pub fn refresh(shares: [u32; 8], n: usize, m: u32, cursor: Cursor, tape: &[u32]) -> Shared
+pub fn refresh(
+    shares: [u32; Params::MOST],
+    n: usize,
+    m: u32,
+    cursor: Cursor,
+    tape: &[u32],
+) -> Shared
     requires { ⌜ Held 8 n m shares ⌝ }
     ensures { λ r. ⌜ Gave n m r (run (refresh (arithmetic m) (take n shares)) (now (tape .entry)) cursor) ⌝ }
 {

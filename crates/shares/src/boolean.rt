@@ -1,5 +1,6 @@
 // Boolean refresh of width k, with the last share in a local as in the refresh mod m.
 use super::Shared;
+use params::Params;
 use tape::Cursor;
 use tape::Draw;
 use words::power;
@@ -10,7 +11,13 @@ ghost use Rattle.shares.specs.Sharing.{boolean};
 ghost use Rattle.shares.specs.Refresh.{refresh};
 ghost use Rattle.shares.specs.Arrays.{Held, Gave};
 
-pub fn refresh_boolean(shares: [u32; 8], n: usize, k: u32, cursor: Cursor, tape: &[u32]) -> Shared
+pub fn refresh_boolean(
+    shares: [u32; Params::MOST],
+    n: usize,
+    k: u32,
+    cursor: Cursor,
+    tape: &[u32],
+) -> Shared
     requires { ⌜ (k ≤ 31) × Held 8 n (2 ^ k) shares ⌝ }
     ensures { λ r. ⌜ Gave n (2 ^ k) r (run (refresh (boolean k) (take n shares)) (now (tape .entry)) cursor) ⌝ }
 {

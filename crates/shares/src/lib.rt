@@ -7,13 +7,14 @@ pub use arithmetic::refresh;
 pub use boolean::refresh_boolean;
 pub use closing::close;
 pub use closing::close_boolean;
+use params::Params;
 use tape::Cursor;
 ghost use mathlib.Core.Path.{_≡_};
 ghost use mathlib.Core.Bool.{false};
 
 // What a gadget gives: its shares and the place of the next word, or, where `ok` is false, that the tape has ended.
 pub struct Shared {
-    pub words: [u32; 8],
+    pub words: [u32; Params::MOST],
     pub cursor: Cursor,
     pub ok: bool,
 }
@@ -24,7 +25,7 @@ impl Shared {
         ensures { λ r. ⌜ r .ok ≡ false ⌝ }
     {
         Shared {
-            words: [0u32; 8],
+            words: [0u32; Params::MOST],
             cursor: Cursor::start(),
             ok: false,
         }

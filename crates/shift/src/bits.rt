@@ -1,5 +1,6 @@
 // Arithmetic shares mod 2^k to Boolean shares of width k.
 use super::halvings::shift_by;
+use params::Params;
 use shares::Shared;
 use tape::Cursor;
 use words::power;
@@ -12,13 +13,13 @@ ghost use Rattle.shares.specs.Arrays.{Held, Gave};
 ghost use Rattle.shift.specs.ToBoolean.{withBit, toBoolean};
 
 // Bit b of each word, from the parities of the arithmetic shares.
-fn with_bit(words: [u32; 8], shares: [u32; 8], b: u32) -> [u32; 8]
+fn with_bit(words: [u32; Params::MOST], shares: [u32; Params::MOST], b: u32) -> [u32; Params::MOST]
     requires { ⌜ (b ≤ 30) × Words 8 (2 ^ b) words ⌝ }
     ensures { λ r. ⌜ r ≡ withBit b shares words ⌝ }
 {
     let place = power(b);
     let mut out = words;
-    for i in 0..8 {
+    for i in 0..Params::MOST {
         out[i] = out[i] + place * (shares[i] % 2);
     }
     out
@@ -26,11 +27,17 @@ fn with_bit(words: [u32; 8], shares: [u32; 8], b: u32) -> [u32; 8]
 
 // The halving between bits is a shift by 1. So `halve` has one caller, and the compiler can take it into that loop; called from two places, it
 // made a shift of two shares take twice the time.
-pub fn to_boolean(shares: [u32; 8], n: usize, k: u32, cursor: Cursor, tape: &[u32]) -> Shared
+pub fn to_boolean(
+    shares: [u32; Params::MOST],
+    n: usize,
+    k: u32,
+    cursor: Cursor,
+    tape: &[u32],
+) -> Shared
     requires { ⌜ (1 ≤ k) × (k ≤ 31) × Held 8 n (2 ^ k) shares ⌝ }
     ensures { λ r. ⌜ Gave n (2 ^ k) r (run (toBoolean k (take n shares)) (now (tape .entry)) cursor) ⌝ }
 {
-    let mut words = [0u32; 8];
+    let mut words = [0u32; Params::MOST];
     let mut rest = shares;
     let mut cur = cursor;
     for b in 0..k - 1 {

@@ -1,5 +1,6 @@
 // The shift by t, from 2^t·m to m.
 use halving::halve;
+use params::Params;
 use shares::Shared;
 use tape::Cursor;
 use words::power;
@@ -9,7 +10,14 @@ ghost use Rattle.draws.specs.Draws.{run};
 ghost use Rattle.shares.specs.Arrays.{Held, Gave};
 ghost use Rattle.shift.specs.Shift.{shift};
 
-pub fn shift_by(shares: [u32; 8], n: usize, m: u32, t: u32, cursor: Cursor, tape: &[u32]) -> Shared
+pub fn shift_by(
+    shares: [u32; Params::MOST],
+    n: usize,
+    m: u32,
+    t: u32,
+    cursor: Cursor,
+    tape: &[u32],
+) -> Shared
     requires { ⌜ (t ≤ 31) × (2 ≤ m) × (2 ^ t * m < 2 ^ 32) × Held 8 n (2 ^ t * m) shares ⌝ }
     ensures { λ r. ⌜ Gave n m r (run (shift m t (take n shares)) (now (tape .entry)) cursor) ⌝ }
 {

@@ -3,6 +3,7 @@ use super::steps::quotients;
 use super::steps::raised_shift;
 use super::steps::without;
 use convert::to_arithmetic;
+use params::Params;
 use shares::Shared;
 use tape::Cursor;
 use words::alpha;
@@ -14,7 +15,7 @@ ghost use Rattle.shares.specs.Arrays.{Held, Gave};
 ghost use Rattle.switching.specs.ToModulus.{toModulus};
 
 pub fn to_modulus(
-    shares: [u32; 8],
+    shares: [u32; Params::MOST],
     n: usize,
     mu: u32,
     modulus: u32,

@@ -1,4 +1,5 @@
 // The steps of modulus switching. The maps go over all eight words.
+use params::Params;
 use shares::Shared;
 use shift::shift_by;
 use tape::Cursor;
@@ -15,12 +16,12 @@ ghost use Rattle.shares.specs.Arrays.{Held, Gave};
 ghost use Rattle.switching.specs.Switching.{raisedShift, without};
 
 // floor(x / 2^mu) of each word. Of a word below 2^(mu + alpha) it is below 2^alpha, so it needs no remainder.
-pub fn quotients(shares: [u32; 8], mu: u32) -> [u32; 8]
+pub fn quotients(shares: [u32; Params::MOST], mu: u32) -> [u32; Params::MOST]
     requires { ⌜ mu ≤ 31 ⌝ }
     ensures { λ r. ⌜ r ≡ along (λ i x. x / 2 ^ mu) shares ⌝ }
 {
     let mut words = shares;
-    for i in 0..8 {
+    for i in 0..Params::MOST {
         words[i] = words[i] >> mu;
     }
     words
@@ -28,7 +29,7 @@ pub fn quotients(shares: [u32; 8], mu: u32) -> [u32; 8]
 
 // n - 1 added to the first of the floors, and the shift by t, from 2^t·m to m.
 pub fn raised_shift(
-    floors: [u32; 8],
+    floors: [u32; Params::MOST],
     n: usize,
     m: u32,
     t: u32,
@@ -51,12 +52,17 @@ fn less(x: u32, e: u32, k: u32, m: u32) -> u32
     reduce(x as u64 + power(k) as u64 * (m - e) as u64, m)
 }
 
-pub fn without(shares: [u32; 8], e: [u32; 8], k: u32, m: u32) -> [u32; 8]
+pub fn without(
+    shares: [u32; Params::MOST],
+    e: [u32; Params::MOST],
+    k: u32,
+    m: u32,
+) -> [u32; Params::MOST]
     requires { ⌜ (k ≤ 31) × (2 ≤ m) × Words 8 m e ⌝ }
     ensures { λ r. ⌜ r ≡ without m (2 ^ k) e shares ⌝ }
 {
     let mut words = shares;
-    for i in 0..8 {
+    for i in 0..Params::MOST {
         words[i] = less(words[i], e[i], k, m);
     }
     words

@@ -1,11 +1,10 @@
 // Words below a modulus: sum, difference, negation, the remainder by q and by any modulus, and numbers of bits.
 // Nothing here divides by a variable: some processors take longer for some operands.
+use params::Params;
 ghost use mathlib.Core.Path.{_≡_};
 ghost use Prim.Native.Nat.{_%_, _^_, _≤_, _<_};
 ghost use Rattle.numbers.specs.Modulo.{q, addMod, subMod, negMod};
 ghost use Rattle.numbers.specs.Bits.{bitsOf, alpha};
-
-pub const Q: u32 = 8380417;
 
 // `m - b` is formed first, so that the sum of two words fits for every modulus of 32 bits.
 pub fn add_mod(a: u32, b: u32, m: u32) -> u32
@@ -34,7 +33,7 @@ pub fn neg_mod(a: u32, m: u32) -> u32
 pub fn reduce_q(x: u64) -> u32
     ensures { λ r. ⌜ r ≡ x % q ⌝ }
 {
-    (x % (Q as u64)) as u32
+    (x % (Params::Q as u64)) as u32
 }
 
 // The remainder, a binary digit at a time from the top, for a modulus that is not a constant: slow, but with no divide.
@@ -55,7 +54,7 @@ pub fn reduce(x: u64, m: u32) -> u32
     requires { ⌜ 2 ≤ m ⌝ }
     ensures { λ r. ⌜ r ≡ x % m ⌝ }
 {
-    if m == Q {
+    if m == Params::Q {
         return reduce_q(x);
     }
     reduce_by_digits(x, m)

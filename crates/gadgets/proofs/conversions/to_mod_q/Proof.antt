@@ -5,13 +5,13 @@ use native.Mathlib.Omega.{arith}
 use lib.ListN.{length}
 use lib.Pow.{pow-mono}
 use denote.Ref.{now}
+use Rattle.params.proofs.RoomLaws.{alpha-most, q-room}
 use Rattle.shares.specs.Sharing.{arithmetic, boolean}
 use Rattle.switching.specs.ToModulus.{toModulus}
 use Rattle.gate.specs.Checks.{inside, firstFailing, checks}
 use Rattle.gate.proofs.CheckLaws.{Passed, all-passed, inside-out, checked-width}
 use Rattle.gate.proofs.GadgetLaws.{silent-refused, silent-ran, closed-on-copy, held, held-given}
 use Rattle.gadgets.specs.Convert.{toModQGadget}
-use Rattle.gadgets.proofs.RangeLaws.{alpha-most, q-room}
 use Rattle.gadgets.proofs.conversions.to_mod_q.Statement.{statement}
 use Rattle.gadgets.proofs.conversions.to_mod_q.Tie as tie
 

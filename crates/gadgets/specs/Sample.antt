@@ -1,0 +1,23 @@
+-- Both samplers as gadgets (document 01, "Steps"; the ranges, "What a caller gets back").
+use mathlib.Core.List.{List}
+use Prim.Native.Nat.{ℕ}
+use lib.ListN.{length, replicate}
+use lib.Dec.{eqb}
+use Rattle.numbers.specs.Tests.{pick}
+use Rattle.params.specs.Sets.{known, paramsOf}
+use Rattle.sample.specs.Sampling.{coefficient, polynomial}
+use Rattle.gate.specs.Sampler.{Sampler}
+
+-- one coefficient, of set 44, 65 or 87
+unfoldable pub sampler : ℕ → Sampler
+sampler set = record { inRange = known set; coefficients = 1; steps = λ n out. coefficient (paramsOf set) n; leaves = λ number out. out }
+
+-- a polynomial; number 5 sets all words of its slice to 0
+unfoldable pub polynomialSampler : ℕ → Sampler
+polynomialSampler set =
+    record {
+      inRange = known set;
+      coefficients = 256;
+      steps = λ n out. polynomial (paramsOf set) n out;
+      leaves = λ number out. pick (eqb number 5) (replicate (length out) 0) out;
+    }

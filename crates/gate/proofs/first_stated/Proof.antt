@@ -1,0 +1,41 @@
+use borrow.Author.Needs.{needs}
+use mathlib.Core.Bool.{true}
+use mathlib.Core.Path.{_≡_}
+use Prim.Native.Nat.{_*_, _≤_}
+use native.Mathlib.Nat.{mul-le-mul}
+use native.Mathlib.Omega.{arith}
+use borrow.Author.Tests.{not-true, not-false}
+use Rattle.gate.specs.Checks.{inside, firstFailing}
+use Rattle.gate.proofs.CheckLaws.{inside-yes, inside-low, inside-high, fails-1, fails-2, fails-3, fails-later}
+use Rattle.gate.proofs.first_stated.Statement.{statement}
+use Rattle.gate.proofs.first_stated.Tie as tie
+
+-- the share count is right
+count : (c : tie.Else2) → inside 2 8 (c .before .before .args .n) ≡ true
+count c = inside-yes 2 8 _ (c .before .if1 .left) (c .if2 .left)
+
+returns : tie.Need-returns
+returns c = fails-1 _ _ _ _ _ (inside-low 2 8 _ (c .if1 .taken))
+
+returns-2 : tie.Need-returns-2
+returns-2 c = fails-1 _ _ _ _ _ (inside-high 2 8 _ (c .before .if1 .left) (c .if2 .taken))
+
+mul-if3 : tie.Need-mul-if3
+mul-if3 c =
+    let a = c .before .before .args in
+    let few : a .coefficients ≤ 256 = search needs in
+    let h : a .coefficients * a .n ≤ 256 * 8 = mul-le-mul few (c .if2 .left) in
+    omega arith
+
+returns-3 : tie.Need-returns-3
+returns-3 c = fails-2 _ _ _ _ _ (count (c .before)) (c .if3 .taken)
+
+returns-4 : tie.Need-returns-4
+returns-4 c = fails-3 _ _ _ _ _ (count (c .before .before)) (c .before .if3 .left) (not-true _ (c .if4 .taken))
+
+returns-5 : tie.Need-returns-5
+unfolding firstFailing
+returns-5 c = fails-later _ _ _ _ _ (count (c .before .before)) (c .before .if3 .left) (not-false _ (c .if4 .left))
+
+pub first-stated-spec : {M : Type 1} → statement M
+first-stated-spec = tie.close (tie.spec returns returns-2 mul-if3 returns-3 returns-4 returns-5)

@@ -1,0 +1,27 @@
+-- What the gadgets ask of a parameter set. Each holds of all three sets (`set-laws`), and nothing else about a set's numbers is used.
+use mathlib.Core.Path.{_≡_}
+use Prim.Native.Nat.{_+_, _-_, _*_, _^_, _≤_, _<_}
+use Rattle.numbers.specs.Modulo.{q}
+use Rattle.params.specs.declared.Bounds.{Bounds}
+use Rattle.params.specs.declared.Params.{Params}
+
+-- of a kind: b − a < 2^ρ, and 4b ≤ q
+pub record Reached (k : Bounds) : Type 0 where
+  pub past : k .b < k .a + 2 ^ k .rho
+  pub quarter : 4 * k .b ≤ q
+
+pub record Laws (p : Params) : Type 0 where
+  -- the mask's offset γ1 − 1 is not zero
+  pub offset : 1 < p .gamma1
+  -- μ bits hold just the 2γ1 values of a mask
+  pub mask : 2 ^ p .mu ≡ 2 * p .gamma1
+  -- 2γ2·δ = q − 1
+  pub parts : 2 * p .gamma2 * p .delta ≡ q - 1
+  -- kind 1: a = γ1 − β, b = γ1 + β
+  pub bound1 : p .kind1 .a + p .beta ≡ p .gamma1
+  pub reach1 : p .kind1 .b ≡ p .gamma1 + p .beta
+  -- kind 2: a = γ2 − β, b = γ2
+  pub bound2 : p .kind2 .a + p .beta ≡ p .gamma2
+  pub reach2 : p .kind2 .b ≡ p .gamma2
+  pub reached1 : Reached (p .kind1)
+  pub reached2 : Reached (p .kind2)

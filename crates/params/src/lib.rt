@@ -1,0 +1,94 @@
+// The parameter sets of ML-DSA: the constants of each stand here and nowhere else.
+ghost use mathlib.Core.Path.{_≡_};
+ghost use Rattle.params.specs.Sets.{setOf};
+ghost use Rattle.params.specs.Answers.{choiceStandsFor};
+
+// Of one kind of coefficient: a size below the bound a is accepted, the reach b is how large it can be, and rho is the verdict's shift.
+pub struct Bounds {
+    pub a: u32,
+    pub b: u32,
+    pub rho: u32,
+}
+
+// The constants of one set. Kind 1 is z and kind 2 is r̃.
+pub struct Params {
+    pub gamma1: u32,
+    pub gamma2: u32,
+    pub beta: u32,
+    pub delta: u32,
+    pub mu: u32,
+    pub kind1: Bounds,
+    pub kind2: Bounds,
+}
+
+// The set of a number, or that there is none.
+pub enum Choice {
+    Set(Params),
+    Unknown,
+}
+
+impl Params {
+    pub const Q: u32 = 8380417;
+
+    // The largest number of shares.
+    pub const MOST: usize = 8;
+
+    pub fn of_set(set: u32) -> Choice
+        ensures { λ r. ⌜ choiceStandsFor r ≡ setOf set ⌝ }
+    {
+        match set {
+            44 => Choice::Set(Params {
+                gamma1: 131072,
+                gamma2: 95232,
+                beta: 78,
+                delta: 44,
+                mu: 18,
+                kind1: Bounds {
+                    a: 130994,
+                    b: 131150,
+                    rho: 8,
+                },
+                kind2: Bounds {
+                    a: 95154,
+                    b: 95232,
+                    rho: 7,
+                },
+            }),
+            65 => Choice::Set(Params {
+                gamma1: 524288,
+                gamma2: 261888,
+                beta: 196,
+                delta: 16,
+                mu: 20,
+                kind1: Bounds {
+                    a: 524092,
+                    b: 524484,
+                    rho: 9,
+                },
+                kind2: Bounds {
+                    a: 261692,
+                    b: 261888,
+                    rho: 8,
+                },
+            }),
+            87 => Choice::Set(Params {
+                gamma1: 524288,
+                gamma2: 261888,
+                beta: 120,
+                delta: 16,
+                mu: 20,
+                kind1: Bounds {
+                    a: 524168,
+                    b: 524408,
+                    rho: 8,
+                },
+                kind2: Bounds {
+                    a: 261768,
+                    b: 261888,
+                    rho: 7,
+                },
+            }),
+            _ => Choice::Unknown,
+        }
+    }
+}

@@ -1,0 +1,3 @@
+pub mod DrawingLaws
+pub mod StepLaws
+pub mod RowLaws

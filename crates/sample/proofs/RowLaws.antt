@@ -1,0 +1,80 @@
+-- Laws of the rows of a polynomial: what the loop over its coefficients goes by.
+use mathlib.Core.Path.{_≡_, refl, sym, ap, ap₂, subst, _∙_}
+use mathlib.Core.List.{List, _++_}
+use Prim.Native.Nat.{ℕ, _+_, _-_, _*_, _≤_, _<_}
+use native.Mathlib.Nat.{suc-mul, mul-le-mul-right}
+use native.Mathlib.Omega.{arith}
+use lib.ListN.{length, take, drop, length-append, length-drop}
+use lib.Seq.{length-take-le, drop-drop}
+use Rattle.params.specs.declared.Params.{Params}
+use Rattle.tape.specs.declared.Cursor.{Cursor}
+use Rattle.tape.specs.Tape.{Ran, ended, ran, start}
+use Rattle.draws.specs.Draws.{each, run}
+use Rattle.draws.proofs.RunLaws.{bind-ran, bind-ended, run-done, each-done, each-more, each-ended}
+use Rattle.sample.specs.declared.Written.{Written}
+use Rattle.sample.specs.declared.Written.the-variants.{Up, Ended}
+use Rattle.sample.specs.Sampling.{coefficient, filled, row, polynomial}
+use Rattle.sample.specs.Answers.{writtenStandsFor}
+
+-- row c of so many rows of n words lies within them
+pub row-within : (c rows n : ℕ) → c < rows → c * n + n ≤ rows * n
+row-within c rows n h = subst (λ (k : ℕ). k ≤ rows * n) (suc-mul c n) (mul-le-mul-right n h)
+
+-- words that fill as many others leave the length as it was
+pub filled-length : (place : ℕ) (ys out : List ℕ) → place + length ys ≤ length out → length (filled place ys out) ≡ length out
+unfolding filled
+filled-length place ys out h =
+    length-append (take place out) (ys ++ drop (place + length ys) out)
+    ∙ ap₂ _+_ (length-take-le place out (omega arith)) (length-append ys (drop (place + length ys) out) ∙ ap (length ys +_) (length-drop (place + length ys) out))
+    ∙ omega arith
+
+-- n words are lent
+pub lent-length : (place n : ℕ) (out : List ℕ) → place + n ≤ length out → length (take (place + n - place) (drop place out)) ≡ n
+lent-length place n out h =
+    let e : place + n - place ≡ n = omega arith in
+    let f : n ≤ length (drop place out) = omega (arith, length-drop place out) in
+    rw e (length-take-le n (drop place out) f)
+
+-- the lent words put back are the words that fill
+pub filled-back : (place n : ℕ) (ys out : List ℕ) → length ys ≡ n → take place out ++ (ys ++ drop (place + n - place) (drop place out)) ≡ filled place ys out
+unfolding filled
+filled-back place n ys out e =
+    let f : place + n - place ≡ n = omega arith in
+    ap (λ (l : List ℕ). take place out ++ (ys ++ l)) (ap (λ (k : ℕ). drop k (drop place out)) f ∙ drop-drop n place out ∙ ap (λ (k : ℕ). drop (place + k) out) (sym e))
+
+-- the coefficients before c stand in their rows, of a polynomial that began as x: what is left to do gives the same as the whole
+pub record Filling (p : Params) (n : ℕ) (tape : List ℕ) (x : Ran (List ℕ)) (c : ℕ) (out : List ℕ) (cursor : Cursor) : Type 0 where
+  pub size : length out ≡ 256 * n
+  pub same : run (each (row p n) c 256 out) tape cursor ≡ x
+
+pub filling-start : (p : Params) (n : ℕ) (tape out : List ℕ) → length out ≡ 256 * n → Filling p n tape (run (polynomial p n out) tape start) 0 out start
+unfolding polynomial
+filling-start p n tape out e = record { size = e; same = refl }
+
+module _ {p : Params} {n : ℕ} {tape : List ℕ} {x : Ran (List ℕ)} {c : ℕ} {out : List ℕ} {cursor : Cursor} (a : Filling p n tape x c out cursor) where
+  pub filling-all : 256 ≤ c → ran out cursor ≡ x
+  filling-all h = sym (each-done (row p n) c 256 out tape cursor h) ∙ a .same
+
+  module _ (h : c < 256) where
+    -- the row is lent
+    pub filling-within : c * n + n ≤ length out
+    filling-within = omega (arith, row-within c 256 n h, a .size)
+
+    module _ (d : Written) (ys : List ℕ) (told : writtenStandsFor d ys ≡ run (coefficient p n) tape cursor) where
+      pub filling-ended : d ≡ Ended → ended ≡ x
+      unfolding row writtenStandsFor
+      filling-ended e = sym (each-ended (row p n) c 256 out tape cursor h (bind-ended (coefficient p n) _ tape cursor (sym told ∙ ap (λ (w : Written). writtenStandsFor w ys) e))) ∙ a .same
+
+      -- and comes back
+      pub filling-more : {next : Cursor} → d ≡ Up next → length ys ≡ n → Filling p n tape x (c + 1) (take (c * n) out ++ (ys ++ drop (c * n + n - c * n) (drop (c * n) out))) next
+      unfolding row writtenStandsFor
+      filling-more {next} e l =
+          let back = filled-back (c * n) n ys out l in
+          let found : run (coefficient p n) tape cursor ≡ ran ys next = sym told ∙ ap (λ (w : Written). writtenStandsFor w ys) e in
+          record {
+            size = ap length back ∙ filled-length (c * n) ys out (omega (arith, filling-within)) ∙ a .size;
+            same =
+                ap (λ (o : List ℕ). run (each (row p n) (c + 1) 256 o) tape next) back
+                ∙ sym (each-more (row p n) c 256 out tape cursor h (filled (c * n) ys out) next (bind-ran (coefficient p n) _ tape cursor ys next found ∙ run-done _ tape next))
+                ∙ a .same;
+          }
