@@ -1,12 +1,14 @@
 // Runs the public gadgets on the hand cases and on many pseudo-random calls, and prints for each gadget and share count how often
 // each number was answered and a checksum of everything answered. docs/CASES.md says which calls are made.
 mod calls;
+mod far;
+mod inputs;
 mod parameters;
-mod shares;
 mod tally;
 
 use parameters::Pair;
 use params::Params;
+use tally::Tally;
 use tape::Cursor;
 use tape::Draw;
 
@@ -57,16 +59,22 @@ fn by_hand() {
     on_two(3, &[7, 8], &[12, 3, 6], Pair::of(10, 1));
     on_two(4, &[6, 7], &[0, 0, 3], Pair::of(3, 0));
     on_two(5, &[6, 3], &[1, 2, 7], Pair::of(4, 0));
+    on_two(7, &[0, 0], &[0, 0, 0, 0, 0, 0], Pair::of(44, 0));
+}
+
+// The end of a line.
+fn told(t: Tally) {
+    let counts = t.counts;
+    numbers(&counts);
+    number(t.sum);
+    text(b"\n");
 }
 
 fn line(gadget: u32, n: usize) {
     let t = calls::all_rounds(gadget, n);
     calls::name(gadget);
     number(tally::low(n));
-    let counts = t.counts;
-    numbers(&counts);
-    number(t.sum);
-    text(b"\n");
+    told(t);
 }
 
 fn lines(gadget: u32) {
@@ -75,9 +83,18 @@ fn lines(gadget: u32) {
     }
 }
 
+fn far_line(gadget: u32) {
+    let t = far::all_counts(gadget);
+    calls::name(gadget);
+    text(b" far");
+    told(t);
+}
+
 fn main() {
     by_hand();
-    for gadget in 1..7 {
+    for gadget in 1..9 {
         lines(gadget);
     }
+    far_line(7);
+    far_line(8);
 }

@@ -8,6 +8,16 @@ pub struct Tally {
     pub used: usize,
 }
 
+impl Tally {
+    pub fn start() -> Tally {
+        Tally {
+            counts: [0u32; 6],
+            sum: 0,
+            used: 0,
+        }
+    }
+}
+
 // The low 32 bits of a count.
 pub fn low(n: usize) -> u32 {
     (n % 4294967296) as u32

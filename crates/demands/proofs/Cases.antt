@@ -12,13 +12,21 @@ use Rattle.halving.specs.Halving.{negated, join, joinTurn, sharedParity, less, 
 use Rattle.shift.specs.Shift.{shift}
 use Rattle.shift.specs.ToBoolean.{withBit, bitsFrom, toBoolean}
 use Rattle.convert.specs.ToArithmetic.{psi, psis, zOf, added, rule, toArithmetic}
-use Rattle.gate.specs.Checks.{inside, allBelow, firstFailing, checks}
-use Rattle.gate.specs.Told.{refusal, ranTold}
-use Rattle.gate.specs.Gadget.{silentSteps, closed, checkNumber, tells}
+use Rattle.gate.specs.Checks.{inside, allBelow, firstFailing, checksOf, checks}
+use Rattle.gate.specs.Told.{refusal, ranTold, checkNumber, told}
+use Rattle.gate.specs.Gadget.{silentSteps, closed, tells}
+use Rattle.gate.specs.Sampler.{samples}
+use Rattle.params.specs.Sets.{setOf, known, paramsOf}
+use Rattle.draws.specs.Plan.{drawAll}
+use Rattle.switching.specs.Switching.{floors, raised, raisedShift, carries, without}
+use Rattle.switching.specs.ToModulus.{toModulus}
+use Rattle.sample.specs.Sampling.{lowered, coefficient}
+use Rattle.numbers.specs.Bits.{alpha, powerFrom}
 use Rattle.gadgets.specs.Shift.{shiftRange, shiftGadget, toBooleanGadget}
 use Rattle.gadgets.specs.Convert.{toArithmeticGadget}
+use Rattle.gadgets.specs.Sample.{sampler}
 use Rattle.demands.specs.Cases.{Cases}
 
 pub cases : Cases
-unfolding leadingZeros addMod subMod negMod xor bitsOf change along over lowBits drawFrom drawAt after next run bind turns each move turn refresh negated join joinTurn sharedParity less moveParity evened halves halving shift withBit bitsFrom toBoolean psi psis zOf added rule toArithmetic inside allBelow firstFailing checks refusal ranTold silentSteps closed checkNumber tells shiftRange shiftGadget toBooleanGadget toArithmeticGadget
-cases = record { draw-skips = refl; draw-cuts = refl; psi-of = refl; shift-draws = refl; shift-skips = refl; shift-ends = refl; to-arithmetic = refl; to-boolean = refl }
+unfolding leadingZeros addMod subMod negMod xor bitsOf change along over lowBits drawFrom drawAt after next run bind turns each move turn refresh negated join joinTurn sharedParity less moveParity evened halves halving shift withBit bitsFrom toBoolean psi psis zOf added rule toArithmetic inside allBelow firstFailing checksOf checks refusal ranTold silentSteps closed checkNumber told tells shiftRange shiftGadget toBooleanGadget toArithmeticGadget samples setOf known paramsOf drawAll floors raised raisedShift carries without toModulus lowered coefficient alpha powerFrom sampler
+cases = record { draw-skips = refl; draw-cuts = refl; psi-of = refl; shift-draws = refl; shift-skips = refl; shift-ends = refl; to-arithmetic = refl; to-boolean = refl; sampling = refl }

@@ -27,7 +27,8 @@ use Rattle.demands.specs.Claim.{plan}
 use Rattle.demands.specs.Demands.{Demands}
 use Rattle.demands.specs.Unique.{Unique}
 use Rattle.demands.specs.Convert.{toArithmeticClaim, toModQClaim}
-use Rattle.demands.proofs.Steps.{number-range, width-range, Steps}
+use Rattle.demands.proofs.Answers.{number-range, width-range}
+use Rattle.demands.proofs.Steps.{Steps}
 use Rattle.demands.proofs.Demands.{demands}
 use Rattle.demands.proofs.Unique.{unique}
 
@@ -39,7 +40,7 @@ to-arithmetic-steps k =
       opens-fields = λ x. refl;
       give = λ r n least most xs w.
           gives-map _ silent (to-arithmetic-keeps k n (xorAll xs) xs (omega (arith, r .1)) (omega arith) (record { words = w; is = refl }))
-          (λ ys a. record { opened = refl; words = a .words; plain = a .is });
+          (λ ys a. record { opened = refl; words = a .words; recombined = a .is });
     }
 
 to-mod-q-steps : (μ : ℕ) → Steps (toModQClaim μ)
@@ -52,7 +53,7 @@ to-mod-q-steps μ =
           let below : xorAll xs < 2 ^ μ = fold-below (xors μ) xs w in
           let wide : 2 ^ μ ≤ 2 ^ 20 = pow-mono (r .1) in
           gives-map _ silent (to-modulus-keeps q μ n (xorAll xs) xs (omega arith) (omega (arith, r .1, alpha-most n most)) (omega arith) (record { words = w; is = refl }))
-          (λ ys a. record { opened = refl; words = a .words; plain = a .is ∙ mod-eq-of-lt (omega arith) });
+          (λ ys a. record { opened = refl; words = a .words; recombined = a .is ∙ mod-eq-of-lt (omega arith) });
     }
 
 pub to-arithmetic-demands : (k : ℕ) → Demands (toArithmeticClaim k)

@@ -1,10 +1,21 @@
--- The three demands follow from what a gadget shows of its steps.
+-- The demands follow from what a gadget shows of its steps.
 use Rattle.demands.specs.Claim.{Claim}
-use Rattle.demands.specs.Demands.{Demands}
-use Rattle.demands.proofs.Steps.{Steps}
+use Rattle.demands.specs.SamplerClaim.{SamplerClaim}
+use Rattle.demands.specs.Demands.{Demands, SamplerDemands}
+use Rattle.demands.proofs.Steps.{Steps, on-shares}
+use Rattle.demands.proofs.SamplerSteps.{SamplerSteps, on-none}
 use Rattle.demands.proofs.Refusals as Refusals
 use Rattle.demands.proofs.Values as Values
 use Rattle.demands.proofs.Settings as Settings
+use Prim.Native.Nat.{ℕ}
 
 pub demands : {c : Claim} → Steps c → Demands c
-demands s = record { refusals = Refusals.refusals s; values = Values.values s; settings = Settings.settings s }
+demands s =
+    record {
+      refusals = λ shares tape out. Refusals.refusals (on-shares s shares out) tape;
+      values = λ shares tape out. Values.values (on-shares s shares out) tape;
+      settings = Settings.settings s;
+    }
+
+pub sampler-demands : {c : SamplerClaim} {M : ℕ} → SamplerSteps c M → SamplerDemands c
+sampler-demands s = record { refusals = λ n tape out. Refusals.refusals (on-none s n out) tape; values = λ n tape out. Values.values (on-none s n out) tape }

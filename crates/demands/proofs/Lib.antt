@@ -1,12 +1,15 @@
-pub mod Steps
 pub mod Runs
+pub mod Answers
+pub mod Steps
+pub mod SamplerSteps
 pub mod Refusals
 pub mod Values
 pub mod Settings
-pub mod Demands
 pub mod Unique
+pub mod Demands
 pub mod Refresh
 pub mod Shift
 pub mod Convert
+pub mod Sample
 pub mod Cases
 pub mod Worked

@@ -12,7 +12,8 @@ use Rattle.gadgets.specs.Refresh.{refreshGadget, booleanGadget}
 use Rattle.demands.specs.Demands.{Demands}
 use Rattle.demands.specs.Unique.{Unique}
 use Rattle.demands.specs.Refresh.{refreshClaim, booleanClaim}
-use Rattle.demands.proofs.Steps.{width-range, Steps}
+use Rattle.demands.proofs.Answers.{width-range}
+use Rattle.demands.proofs.Steps.{Steps}
 use Rattle.demands.proofs.Demands.{demands}
 use Rattle.demands.proofs.Unique.{unique}
 
@@ -28,7 +29,7 @@ refresh-steps M =
             word = λ r. omega (arith, r .1);
           };
       opens-fields = λ x. refl;
-      give = λ r n least most xs w. gives-done (record { opened = refl; words = w; plain = refl });
+      give = λ r n least most xs w. gives-done (record { opened = refl; words = w; recombined = refl });
     }
 
 boolean-steps : (k : ℕ) → Steps (booleanClaim k)
@@ -37,7 +38,7 @@ boolean-steps k =
     record {
       range = width-range k;
       opens-fields = λ x. refl;
-      give = λ r n least most xs w. gives-done (record { opened = refl; words = w; plain = refl });
+      give = λ r n least most xs w. gives-done (record { opened = refl; words = w; recombined = refl });
     }
 
 pub refresh-demands : (M : ℕ) → Demands (refreshClaim M)

@@ -22,11 +22,13 @@ use Rattle.shares.specs.Refresh.{refresh, refreshPlan}
 use Rattle.shares.specs.Closing.{closingMarks, SameBut}
 use Rattle.shares.proofs.SettingLaws.{closing-marks, closing-plan, refresh-closes}
 use Rattle.gate.specs.Told.{Told, Outcome}
-use Rattle.gate.specs.Gadget.{closed, tells}
-use Rattle.demands.specs.Claim.{Claim, Valid, plan}
+use Rattle.gate.specs.Gadget.{closed, call, tells}
+use Rattle.demands.specs.Call.{Valid}
+use Rattle.demands.specs.Claim.{Claim, Claimed, plan, onShares}
 use Rattle.demands.specs.Settings.{SameTold, closingPlaces, closingAnew, OneSetting, Settings}
-use Rattle.demands.proofs.Steps.{Claimed, Steps}
-use Rattle.demands.proofs.Runs.{program, valid-passes, passes-valid, valid-gives, tells-success, Succeeded, succeeded, success}
+use Rattle.demands.proofs.Answers.{Answers}
+use Rattle.demands.proofs.Steps.{Steps, closed-give, on-shares}
+use Rattle.demands.proofs.Runs.{tells-success, Succeeded, succeeded, success}
 
 -- steps and then the closing refresh, fed with the draws r of the steps and others for the refresh
 closed-feed : (s : Sharing) {P : Outcome → Type 0} {d : Draws Outcome} {ms : List ℕ} → Gives P d ms → (r : List ℕ) → Fits ms r → (us : List ℕ) →
@@ -39,6 +41,12 @@ closed-feed s {d = d} g r f us =
 module _ {c : Claim} (s : Steps c) (shares tape out : List ℕ) where
   n : ℕ
   n = length shares
+
+  abbrev program : List ℕ → Draws Outcome
+  program xs = closed (c .gadget .output) (c .gadget .steps xs)
+
+  valid-gives : {xs slice : List ℕ} → Valid (onShares c xs slice) → Gives (Claimed c (length xs) xs) (program xs) (plan c (length xs))
+  valid-gives {xs} v = closed-give s (v .range) (length xs) (v .count .0) (v .count .1) xs (v .below)
 
   M : ℕ
   M = bound (c .gadget .output)
@@ -53,23 +61,23 @@ module _ {c : Claim} (s : Steps c) (shares tape out : List ℕ) where
       marked-after (c .draws (length shares)) (c .draws (length shares)) (refreshPlan (c .gadget .output) (length shares)) (closingMarks (length shares)) refl
       ∙ closing-marks (c .gadget .output) (length shares)
 
-  module _ (x : Succeeded c shares tape out) (second slice : List ℕ) (v : Valid c second slice) (same : length second ≡ length shares)
+  module _ (x : Succeeded (call (c .gadget) shares out) tape) (second slice : List ℕ) (v : Valid (onShares c second slice)) (same : length second ≡ length shares)
       (opens : c .opens (value (c .gadget .input) second) ≡ c .opens (value (c .gadget .input) shares)) (j : ℕ) (hj : j < length shares) where
-    first-valid : Valid c shares out
-    first-valid = passes-valid s (x .passes)
+    first-valid : Valid (onShares c shares out)
+    first-valid = on-shares s shares out .valid (x .passes)
 
-    gx : Gives (Claimed c n shares) (program c shares) (plan c n)
+    gx : Gives (Claimed c n shares) (program shares) (plan c n)
     unfolding n
-    gx = valid-gives s first-valid
+    gx = valid-gives first-valid
 
-    gy : Gives (Claimed c n second) (program c second) (plan c n)
+    gy : Gives (Claimed c n second) (program second) (plan c n)
     unfolding n
-    gy = subst (λ (k : ℕ). Gives (Claimed c k second) (program c second) (plan c k)) same (valid-gives s v)
+    gy = subst (λ (k : ℕ). Gives (Claimed c k second) (program second) (plan c k)) same (valid-gives v)
 
     inner : Gives (Claimed c n second) (c .gadget .steps second) (c .draws n)
     unfolding n
     inner =
-        s .give (v .range) (length shares) (first-valid .counted .0) (first-valid .counted .1) second
+        s .give (v .range) (length shares) (first-valid .count .0) (first-valid .count .1) second
         (subst (λ (k : ℕ). Words k (bound (c .gadget .input)) second) same (v .below))
 
     shown : Claimed c n shares (x .outcome)
@@ -89,13 +97,13 @@ module _ {c : Claim} (s : Steps c) (shares tape out : List ℕ) where
       given us = record { opened = o .opened; shares = feed (refresh (c .gadget .output) (o .shares)) (merged (closingMarks n) (f .snd) us) }
 
       told-on : (us : List ℕ) → Words (n - 1) M us → tells (c .gadget) second (closingAnew c n tape us) slice ≡ success (given us) (x .place)
-      unfolding closingAnew given o marks M
+      unfolding closingAnew given o marks M tells
       told-on us w =
-          tells-success c second (closingAnew c n tape us) slice (valid-passes s v)
-          (anew-run marks (n - 1) M y are-closing us (s .range .positive (v .range)) (s .range .word (v .range)) w (program c second) (gy .plan)
+          tells-success (call (c .gadget) second slice) (closingAnew c n tape us) (on-shares s second slice .passes v)
+          (anew-run marks (n - 1) M y are-closing us (s .range .positive (v .range)) (s .range .word (v .range)) w (program second) (gy .plan)
           ∙ ap (λ z. ran z (x .place))
-          (ap (λ (l : List ℕ). feed (program c second) (merged marks l us)) (f .all)
-          ∙ ap (feed (program c second)) (merged-after (closingMarks n) (f .snd) us (f .fit-fst))
+          (ap (λ (l : List ℕ). feed (program second) (merged marks l us)) (f .all)
+          ∙ ap (feed (program second)) (merged-after (closingMarks n) (f .snd) us (f .fit-fst))
           ∙ closed-feed (c .gadget .output) inner (f .fst) (f .fit-fst) (merged (closingMarks n) (f .snd) us)))
 
       works : (us : List ℕ) → SameBut n j (given us .shares) (x .outcome .shares) → SameTold n j (success (given us) (x .place)) (success (x .outcome) (x .place))
@@ -103,7 +111,7 @@ module _ {c : Claim} (s : Steps c) (shares tape out : List ℕ) where
       works us t = record { succeeds = refl; shares = t; opened = as-claimed .opened ∙ opens ∙ sym (shown .opened); used = refl }
 
       one : ExactlyOne (n - 1) M (λ us. SameTold n j (tells (c .gadget) second (closingAnew c n tape us) slice) (tells (c .gadget) shares tape out))
-      unfolding given M n
+      unfolding given M n tells
       one =
           exactly-as _
           (λ us w t. subst (λ (a : Told). SameTold n j a (tells (c .gadget) shares tape out)) (sym (told-on us w))
@@ -115,9 +123,9 @@ module _ {c : Claim} (s : Steps c) (shares tape out : List ℕ) where
     -- a setting with which the second input gives the same count of words has only numbers below M
     below : {rs : List ℕ} → Reads tape (plan c n) start rs (places (plan c n) tape start) (x .place) → (us : List ℕ) → Words (n - 1) (2 ^ bitsOf M) us →
         SameTold n j (tells (c .gadget) second (closingAnew c n tape us) slice) (tells (c .gadget) shares tape out) → Words (n - 1) M us
-    unfolding closingAnew marks plan M
+    unfolding closingAnew marks plan M tells
     below {rs} y us w t =
-        let z = succeeded c second (closingAnew c n tape us) slice (t .succeeds) in
+        let z = succeeded (call (c .gadget) second slice) (closingAnew c n tape us) (t .succeeds) in
         let (os, r, _) = planned-parts (gy .plan) (closingAnew c n tape us) start (z .ran-to) in
         let used : z .place .at ≡ x .place .at =
         sym (ap (λ (a : Told). a .used) (z .told-so)) ∙ t .used ∙ ap (λ (a : Told). a .used) (x .told-so) in
@@ -140,4 +148,5 @@ module _ {c : Claim} (s : Steps c) (shares tape out : List ℕ) where
         }
 
   pub settings : Settings c shares tape out
-  settings e second slice v same opens j h = one-setting (succeeded c shares tape out e) second slice v same opens j h
+  unfolding tells
+  settings e second slice v same opens j h = one-setting (succeeded (call (c .gadget) shares out) tape e) second slice v same opens j h

@@ -22,7 +22,8 @@ use Rattle.demands.specs.Claim.{plan}
 use Rattle.demands.specs.Demands.{Demands}
 use Rattle.demands.specs.Unique.{Unique}
 use Rattle.demands.specs.Shift.{shiftClaim, toBooleanClaim}
-use Rattle.demands.proofs.Steps.{width-range, Steps}
+use Rattle.demands.proofs.Answers.{width-range}
+use Rattle.demands.proofs.Steps.{Steps}
 use Rattle.demands.proofs.Demands.{demands}
 use Rattle.demands.proofs.Unique.{unique}
 
@@ -42,7 +43,7 @@ shift-steps M t =
           gives-map _ silent
           (shift-floor (M / 2 ^ t) t n (sum xs % M) xs (omega (arith, r .3)) (omega arith)
           (subst (λ (N : ℕ). Shares (arithmetic N) n (sum xs % M) xs) (whole-power M t (r .2)) (record { words = w; is = refl })))
-          (λ ys a. record { opened = refl; words = a .words; plain = a .is });
+          (λ ys a. record { opened = refl; words = a .words; recombined = a .is });
     }
 
 to-boolean-steps : (k : ℕ) → Steps (toBooleanClaim k)
@@ -53,7 +54,7 @@ to-boolean-steps k =
       opens-fields = λ x. refl;
       give = λ r n least most xs w.
           gives-map _ silent (to-boolean-keeps k n (sum xs % 2 ^ k) xs (r .0) (omega arith) (record { words = w; is = refl }))
-          (λ ys a. record { opened = refl; words = a .words; plain = a .is });
+          (λ ys a. record { opened = refl; words = a .words; recombined = a .is });
     }
 
 pub shift-demands : (M t : ℕ) → Demands (shiftClaim M t)

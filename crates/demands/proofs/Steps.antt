@@ -1,43 +1,24 @@
--- What each gadget has to show of its steps; the three demands follow from this alone.
-use mathlib.Core.Path.{_≡_, refl, sym, subst}
-use mathlib.Core.Bool.{Bool, true}
-use mathlib.Core.List.{List}
-use Prim.Native.Nat.{ℕ, _^_, _≤_, _<_}
+-- What each gadget that turns shares into shares has to show of its steps; the three demands follow from this alone.
+use mathlib.Core.Path.{_≡_, refl, sym, ap, subst, _∙_}
+use mathlib.Core.Bool.{Bool}
+use mathlib.Core.List.{List, [], _∷_}
+use Prim.Native.Nat.{ℕ, _≤_}
 use native.Mathlib.Omega.{arith}
 use lib.ListN.{length}
-use lib.Pow.{pow-pos, pow-mono}
 use Rattle.numbers.specs.Lists.{Words}
+use Rattle.tape.specs.Tape.{start}
 use Rattle.draws.proofs.Outcomes.{Gives}
-use Rattle.draws.proofs.PlanLaws.{gives-bind, gives-map}
+use Rattle.draws.proofs.PlanLaws.{gives-bind, gives-map, always-run}
 use Rattle.shares.specs.Sharing.{Sharing, bound, value}
 use Rattle.shares.specs.Refresh.{refreshPlan}
 use Rattle.shares.proofs.RefreshLaws.{refresh-keeps}
-use Rattle.gate.specs.Told.{Outcome}
-use Rattle.gate.specs.Checks.{inside}
+use Rattle.gate.specs.Checks.{allBelow, checks}
+use Rattle.gate.specs.Told.{checkNumber}
 use Rattle.gate.specs.Gadget.{closed}
-use Rattle.gate.proofs.CheckLaws.{inside-yes, inside-out}
-use Rattle.demands.specs.Claim.{Claim, plan}
-
--- an outcome of n shares, of steps on the shares xs, that is as claimed
-pub record Claimed (c : Claim) (n : ℕ) (xs : List ℕ) (o : Outcome) : Type 0 where
-  pub opened : o .opened ≡ c .opens (value (c .gadget .input) xs)
-  pub words : Words n (bound (c .gadget .output)) (o .shares)
-  pub plain : c .Plain (value (c .gadget .input) xs) (value (c .gadget .output) (o .shares))
-
--- a check of parameters, what it says of them, and what the output's words are then below
-pub record Range (inRange : Bool) (InRange : Type 0) (M : ℕ) : Type 0 where
-  pub in-range : inRange ≡ true → InRange
-  pub range-in : InRange → inRange ≡ true
-  pub positive : InRange → 0 < M
-  pub word : InRange → M ≤ 2 ^ 32
-
--- a number from 1 to high
-pub number-range : (high k M : ℕ) → 0 < M → (k ≤ high → M ≤ 2 ^ 32) → Range (inside 1 high k) ((1 ≤ k) × (k ≤ high)) M
-number-range high k M h w = record { in-range = inside-out 1 high k; range-in = λ r. inside-yes 1 high k (r .0) (r .1); positive = λ r. h; word = λ r. w (r .1) }
-
--- a width from 1 to 31
-pub width-range : (k : ℕ) → Range (inside 1 31 k) ((1 ≤ k) × (k ≤ 31)) (2 ^ k)
-width-range k = number-range 31 k (2 ^ k) (pow-pos k) (λ h. pow-mono {i = k} {j = 32} (omega arith))
+use Rattle.gate.proofs.CheckLaws.{below-words, words-below, below-fails, below-passes, all-passed}
+use Rattle.demands.specs.Call.{Valid}
+use Rattle.demands.specs.Claim.{Claim, Claimed, plan, onShares}
+use Rattle.demands.proofs.Answers.{Answers, Range, not-so, first-count, first-length, first-parameter, first-later}
 
 pub record Steps (c : Claim) : Type 0 where
   -- the check of the parameters says what is claimed, and the output's modulus, or 2 to its width, is a word's
@@ -56,7 +37,30 @@ closed-give {c} s r n least most xs w =
     gives-bind _ (refreshPlan out n) (s .give r n least most xs w)
     (λ o d. gives-map (Claimed c n xs) (λ zs. record { opened = o .opened; shares = zs })
     (refresh-keeps out (s .range .positive r) (value out (o .shares)) (o .shares) (omega arith) (record { words = d .words; is = refl }))
-    (λ zs k. record { opened = d .opened; words = k .words; plain = subst (c .Plain (value (c .gadget .input) xs)) (sym (k .is)) (d .plain) }))
+    (λ zs k. record { opened = d .opened; words = k .words; recombined = subst (c .Plain (value (c .gadget .input) xs)) (sym (k .is)) (d .recombined) }))
   where
     out : Sharing
     out = c .gadget .output
+
+-- so a call on shares is as claimed
+pub on-shares : {c : Claim} → Steps c → (shares out : List ℕ) → Answers (onShares c shares out)
+unfolding checkNumber checks
+on-shares {c} s shares out =
+    let n : ℕ = length shares in
+    let M : ℕ = bound (c .gadget .input) in
+    let more : List (ℕ × Bool) = (4, allBelow M shares) ∷ [] in
+    let gives : Valid (onShares c shares out) → Gives (Claimed c n shares) (closed (c .gadget .output) (c .gadget .steps shares)) (plan c n) =
+    λ v. closed-give s (v .range) n (v .count .0) (v .count .1) shares (v .below) in
+    record {
+      bad-count = first-count (s .range) n (length out) n more;
+      bad-length = first-length (s .range) n (length out) n more;
+      bad-parameter = first-parameter (s .range) n (length out) n more;
+      bad-share = λ h r i b. below-fails M shares (not-so _ (λ e. b (below-words M shares e))) ∙ first-later (s .range) n (length out) n more h r i;
+      passes = λ v. sym (below-passes M shares (words-below (v .below)) ∙ first-later (s .range) n (length out) n more (v .count) (v .room) (v .range));
+      valid = λ e.
+          let p = all-passed shares (length out) (c .gadget .inRange) M e in
+          record { count = (p .least, p .most); room = p .fits; range = s .range .in-range (p .range); below = p .below };
+      planned = λ v. gives v .plan;
+      right = λ v tape e. always-run (gives v .always) tape start e;
+      fields = λ tape p o r. ap length (r .opened) ∙ s .opens-fields (value (c .gadget .input) shares);
+    }

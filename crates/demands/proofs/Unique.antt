@@ -12,7 +12,9 @@ pub unique-by : {R : Type 0} (stands : R → List ℕ → Told) (answer : Told �
 unique-by stands answer slice f g t r s out filled e h = (sym (f r out) ∙ ap answer (e ∙ sym h) ∙ f s filled, sym (g r out) ∙ ap slice (e ∙ sym h) ∙ g s filled)
 
 -- so the answer of every gadget that answers a number and words used, and leaves its shares in the output slice
-pub unique : (g : Gadget) (shares tape out : List ℕ) → Unique standsFor (tells g shares tape out)
+pub unique-told : (t : Told) → Unique standsFor t
 unfolding standsFor
-unique g shares tape out =
-    unique-by standsFor (λ t. record { number = t .number; used = t .used }) (λ t. t .out) (λ r filled. refl) (λ r filled. refl) (tells g shares tape out)
+unique-told t = unique-by standsFor (λ a. record { number = a .number; used = a .used }) (λ a. a .out) (λ r filled. refl) (λ r filled. refl) t
+
+pub unique : (g : Gadget) (shares tape out : List ℕ) → Unique standsFor (tells g shares tape out)
+unique g shares tape out = unique-told (tells g shares tape out)

@@ -14,14 +14,14 @@ use Rattle.shift.specs.ToBoolean.{withBit, bitsFrom, toBoolean}
 use Rattle.convert.specs.ToArithmetic.{psi, psis, zOf, added, rule, toArithmetic}
 use Rattle.switching.specs.Switching.{floors, raised, raisedShift, carries, without}
 use Rattle.switching.specs.ToModulus.{toModulus}
-use Rattle.gate.specs.Checks.{inside, allBelow, firstFailing, checks}
-use Rattle.gate.specs.Told.{refusal, ranTold}
-use Rattle.gate.specs.Gadget.{silentSteps, closed, checkNumber, tells}
+use Rattle.gate.specs.Checks.{inside, allBelow, firstFailing, checksOf, checks}
+use Rattle.gate.specs.Told.{refusal, ranTold, checkNumber, told}
+use Rattle.gate.specs.Gadget.{silentSteps, closed, tells}
 use Rattle.gadgets.specs.Shift.{shiftRange, shiftGadget, toBooleanGadget}
 use Rattle.gadgets.specs.Convert.{toArithmeticGadget, toModQGadget}
 use Rattle.gadgets.specs.Refresh.{refreshGadget, booleanGadget}
 use Rattle.demands.specs.Worked.{Worked}
 
 pub worked : Worked
-unfolding leadingZeros addMod subMod negMod xor bitsOf change along over lowBits drawFrom drawAt after next run bind turns each move turn refresh negated join joinTurn sharedParity less moveParity evened halves halving shift withBit bitsFrom toBoolean psi psis zOf added rule toArithmetic floors raised raisedShift carries without toModulus powerFrom alpha inside allBelow firstFailing checks refusal ranTold silentSteps closed checkNumber tells shiftRange shiftGadget toBooleanGadget toArithmeticGadget toModQGadget refreshGadget booleanGadget
+unfolding leadingZeros addMod subMod negMod xor bitsOf change along over lowBits drawFrom drawAt after next run bind turns each move turn refresh negated join joinTurn sharedParity less moveParity evened halves halving shift withBit bitsFrom toBoolean psi psis zOf added rule toArithmetic floors raised raisedShift carries without toModulus powerFrom alpha inside allBelow firstFailing checksOf checks refusal ranTold silentSteps closed checkNumber told tells shiftRange shiftGadget toBooleanGadget toArithmeticGadget toModQGadget refreshGadget booleanGadget
 worked = record { refreshed = refl; refreshed-boolean = refl; shifted = refl; made-boolean = refl; made-arithmetic = refl; made-mod-q = refl; short = refl }

@@ -6,9 +6,11 @@ use Rattle.numbers.specs.Modulo.{q}
 use Rattle.tape.specs.Tape.{start, ran, drawAt}
 use Rattle.gate.specs.Told.{Told}
 use Rattle.gate.specs.Gadget.{tells}
+use Rattle.gate.specs.Sampler.{samples}
 use Rattle.convert.specs.ToArithmetic.{psi}
 use Rattle.gadgets.specs.Shift.{shiftGadget, toBooleanGadget}
 use Rattle.gadgets.specs.Convert.{toArithmeticGadget}
+use Rattle.gadgets.specs.Sample.{sampler}
 
 -- a call that succeeds with two shares
 abbrev shares : ℕ → ℕ → ℕ → Told
@@ -23,3 +25,4 @@ pub record Cases : Type 0 where
   pub shift-ends : tells (shiftGadget 10 1) (7 ∷ 8 ∷ []) (12 ∷ 3 ∷ 6 ∷ []) (0 ∷ 0 ∷ []) .number ≡ 5
   pub to-arithmetic : tells (toArithmeticGadget 4) (6 ∷ 3 ∷ []) (1 ∷ 2 ∷ 7 ∷ []) (0 ∷ 0 ∷ []) ≡ shares 3 9 12
   pub to-boolean : tells (toBooleanGadget 3) (6 ∷ 7 ∷ []) (0 ∷ 0 ∷ 3 ∷ []) (0 ∷ 0 ∷ []) ≡ shares 3 7 2
+  pub sampling : samples (sampler 44) 2 (0 ∷ 0 ∷ 0 ∷ 0 ∷ 0 ∷ 0 ∷ []) (0 ∷ 0 ∷ []) ≡ shares 6 8249346 0

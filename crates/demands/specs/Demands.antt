@@ -1,12 +1,18 @@
--- The three demands, of a gadget that turns shares into shares.
+-- The demands, of a gadget that turns shares into shares, and of a sampler.
 use mathlib.Core.List.{List}
 use Prim.Native.Nat.{ℕ}
-use Rattle.demands.specs.Claim.{Claim}
+use Rattle.demands.specs.Claim.{Claim, onShares}
+use Rattle.demands.specs.SamplerClaim.{SamplerClaim, onNone}
 use Rattle.demands.specs.Refusals.{Refusals}
 use Rattle.demands.specs.Values.{Values}
 use Rattle.demands.specs.Settings.{Settings}
 
 pub record Demands (c : Claim) : Type 0 where
-  pub refusals : (shares tape out : List ℕ) → Refusals c shares tape out
-  pub values : (shares tape out : List ℕ) → Values c shares tape out
+  pub refusals : (shares tape out : List ℕ) → Refusals (onShares c shares out) tape
+  pub values : (shares tape out : List ℕ) → Values (onShares c shares out) tape
   pub settings : (shares tape out : List ℕ) → Settings c shares tape out
+
+-- demand 3 speaks of gadgets that turn shares into shares
+pub record SamplerDemands (c : SamplerClaim) : Type 0 where
+  pub refusals : (n : ℕ) (tape out : List ℕ) → Refusals (onNone c n out) tape
+  pub values : (n : ℕ) (tape out : List ℕ) → Values (onNone c n out) tape

@@ -1,4 +1,6 @@
+pub mod Call
 pub mod Claim
+pub mod SamplerClaim
 pub mod Refusals
 pub mod Values
 pub mod Settings
@@ -7,5 +9,6 @@ pub mod Demands
 pub mod Refresh
 pub mod Shift
 pub mod Convert
+pub mod Sample
 pub mod Cases
 pub mod Worked

@@ -13,7 +13,8 @@ use Rattle.shares.specs.Sharing.{bound, value}
 use Rattle.shares.specs.Closing.{closingMarks, SameBut}
 use Rattle.gate.specs.Told.{Told}
 use Rattle.gate.specs.Gadget.{tells}
-use Rattle.demands.specs.Claim.{Claim, Valid, plan}
+use Rattle.demands.specs.Call.{Valid}
+use Rattle.demands.specs.Claim.{Claim, plan, onShares}
 
 -- t and u, both of a call that succeeds, have the same shares but share j, the same opened numbers and the same count of words used
 pub record SameTold (n j : ℕ) (t u : Told) : Type 0 where
@@ -48,6 +49,6 @@ pub record OneSetting (c : Claim) (shares tape out second slice : List ℕ) (j :
 
 abbrev pub Settings : Claim → (shares tape out : List ℕ) → Type 0
 Settings c shares tape out =
-    tells (c .gadget) shares tape out .number ≡ 0 → (second slice : List ℕ) → Valid c second slice → length second ≡ length shares →
+    tells (c .gadget) shares tape out .number ≡ 0 → (second slice : List ℕ) → Valid (onShares c second slice) → length second ≡ length shares →
     c .opens (value (c .gadget .input) second) ≡ c .opens (value (c .gadget .input) shares) → (j : ℕ) → j < length shares →
     OneSetting c shares tape out second slice j

@@ -3,28 +3,26 @@ use mathlib.Core.Path.{_≡_}
 use mathlib.Core.List.{List}
 use Prim.Native.Nat.{ℕ, _+_}
 use lib.ListN.{length}
-use Rattle.numbers.specs.Lists.{Words}
+use Rattle.tape.specs.declared.Cursor.{Cursor}
 use Rattle.tape.specs.Tape.{start}
 use Rattle.draws.specs.Plan.{skipped}
 use Rattle.draws.specs.Anew.{Same}
-use Rattle.shares.specs.Sharing.{bound, value}
-use Rattle.gate.specs.Told.{Told}
-use Rattle.gate.specs.Gadget.{tells}
-use Rattle.demands.specs.Claim.{Claim, Valid, plan}
+use Rattle.gate.specs.Told.{Told, told}
+use Rattle.demands.specs.Call.{CallClaim, Valid}
 
 -- what t, told by a call that succeeds, says
-pub record Correct (c : Claim) (shares tape out : List ℕ) (t : Told) : Type 0 where
-  pub valid : Valid c shares out
-  -- as many shares as there were, below the output's modulus or 2 to its width, that recombine to what the plain function says
-  pub words : Words (length shares) (bound (c .gadget .output)) (t .out)
-  pub recombined : c .Plain (value (c .gadget .input) shares) (value (c .gadget .output) (t .out))
-  -- the numbers that the plain function says are opened, as many as a refusal has zeros
-  pub opened : t .opened ≡ c .opens (value (c .gadget .input) shares)
-  pub fields : length (t .opened) ≡ c .gadget .fields
-  -- words used = draws + words skipped
-  pub used : t .used ≡ length (plan c (length shares)) + skipped (plan c (length shares)) tape start
+pub record Correct (c : CallClaim) (tape : List ℕ) (t : Told) : Type 0 where
+  pub valid : Valid c
+  -- the output slice and the opened numbers are as claimed, of the tape's words up to a place
+  pub place : Cursor
+  pub right : c .Right tape place (record { opened = t .opened; shares = t .out })
+  -- as many numbers are opened as a refusal has zeros
+  pub fields : length (t .opened) ≡ c .call .fields
+  -- words used are the words up to that place: the draws and the words skipped
+  pub up-to : t .used ≡ place .at
+  pub used : t .used ≡ length (c .plan) + skipped (c .plan) tape start
   -- and these words alone were read: a tape that begins with them gives the same
-  pub read : (other : List ℕ) → Same tape other 0 (t .used) → tells (c .gadget) shares other out ≡ t
+  pub read : (other : List ℕ) → Same tape other 0 (t .used) → told (c .call) other ≡ t
 
-abbrev pub Values : Claim → (shares tape out : List ℕ) → Type 0
-Values c shares tape out = tells (c .gadget) shares tape out .number ≡ 0 → Correct c shares tape out (tells (c .gadget) shares tape out)
+abbrev pub Values : CallClaim → (tape : List ℕ) → Type 0
+Values c tape = told (c .call) tape .number ≡ 0 → Correct c tape (told (c .call) tape)

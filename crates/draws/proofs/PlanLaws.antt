@@ -4,8 +4,8 @@ use mathlib.Core.List.{List, [], _∷_, _++_}
 use Prim.Native.Nat.{ℕ, zero, suc, _+_, _-_, _*_, _≤_, _<_}
 use native.Mathlib.Omega.{arith}
 use lib.ListN.{length, drop, replicate, replicate-append-replicate}
-use Rattle.numbers.specs.Lists.{Words}
-use Rattle.numbers.proofs.WordsLaws.{words-head, words-tail}
+use Rattle.numbers.specs.Lists.{Words, over}
+use Rattle.numbers.proofs.WordsLaws.{words-none, words-head, words-tail, words-cons}
 use Rattle.tape.specs.declared.Cursor.{Cursor}
 use Rattle.tape.specs.Tape.{Ran, ended, ran, drawAt}
 use Rattle.draws.specs.Draws.{Draws, done, draw, after, next, run, bind, turns}
@@ -54,17 +54,26 @@ gives-done h = record { plan = stops; always = holds h }
 pub gives-draw : {A : Type 0} {P : A → Type 0} {M : ℕ} {k : ℕ → Draws A} {ms : List ℕ} → ((r : ℕ) → r < M → Gives P (k r) ms) → Gives P (draw M k) (M ∷ ms)
 gives-draw h = record { plan = draws (λ r l. h r l .plan); always = whatever (λ r l. h r l .always) }
 
+-- turns that each make the draws of one plan
+pub gives-each : {A : Type 0} (P : ℕ → A → Type 0) (f : ℕ → A → Draws A) (ms : List ℕ) (top : ℕ) →
+    ((i : ℕ) (a : A) → i < top → P i a → Gives (P (suc i)) (f i a) ms) → (i k : ℕ) (a : A) → i + k ≤ top → P i a →
+    Gives (P (i + k)) (turns f i k a) (over (λ c ns. ms ++ ns) k [])
+unfolding turns over
+gives-each P f ms top g i zero a h p = let e : i + 0 ≡ i = omega arith in rw e (gives-done p)
+gives-each P f ms top g i (suc k) a h p =
+    let e : i + suc k ≡ suc i + k = omega arith in
+    rw e (gives-bind (λ b. turns f (suc i) k b) (over (λ c ns. ms ++ ns) k []) (g i a (omega arith) p) (λ b q. gives-each P f ms top g (suc i) k b (omega arith) q))
+
 -- turns that each make d draws below M
 pub gives-turns : {A : Type 0} (P : ℕ → A → Type 0) (f : ℕ → A → Draws A) (d M top : ℕ) →
     ((i : ℕ) (a : A) → i < top → P i a → Gives (P (suc i)) (f i a) (replicate d M)) → (i k : ℕ) (a : A) → i + k ≤ top → P i a →
     Gives (P (i + k)) (turns f i k a) (replicate (k * d) M)
-unfolding turns
-gives-turns P f d M top g i zero a h p = let e : i + 0 ≡ i = omega arith in let z : 0 * d ≡ 0 = omega arith in rw (e, z) (gives-done p)
-gives-turns P f d M top g i (suc k) a h p =
-    let e : i + suc k ≡ suc i + k = omega arith in
-    let z : suc k * d ≡ d + k * d = omega arith in
-    rw (e, z, ← replicate-append-replicate d (k * d) M)
-    (gives-bind (λ b. turns f (suc i) k b) (replicate (k * d) M) (g i a (omega arith) p) (λ b q. gives-turns P f d M top g (suc i) k b (omega arith) q))
+unfolding over
+gives-turns P f d M top g i k a h p = subst (Gives (P (i + k)) (turns f i k a)) (all k) (gives-each P f (replicate d M) top g i k a h p)
+  where
+    all : (k : ℕ) → over (λ c ns. replicate d M ++ ns) k [] ≡ replicate (k * d) M
+    all zero = let z : 0 * d ≡ 0 = omega arith in rw z
+    all (suc k) = let z : suc k * d ≡ d + k * d = omega arith in rw (z, ← replicate-append-replicate d (k * d) M) (ap (replicate d M ++_) (all k))
 
 -- what always holds may be weakened
 pub always-as : {A : Type 0} {P Q : A → Type 0} {d : Draws A} → ((a : A) → P a → Q a) → Always P d → Always Q d
@@ -150,6 +159,16 @@ words-fit zero M [] w = none-left
 words-fit zero M (r ∷ rs) w = absurd (omega (arith, w .size))
 words-fit (suc k) M [] w = absurd (omega (arith, w .size))
 words-fit (suc k) M (r ∷ rs) w = one-more (words-head w) (words-fit k M rs (words-tail w))
+
+pub fits-words : (k M : ℕ) (rs : List ℕ) → Fits (replicate k M) rs → Words k M rs
+fits-words zero M rs none-left = words-none
+fits-words (suc k) M rs (one-more l f) = words-cons l (fits-words k M _ f)
+
+-- the program that reads a plan gives what its draws can give
+pub gives-all : (ms : List ℕ) → Gives (Fits ms) (drawAll ms) ms
+unfolding drawAll
+gives-all [] = gives-done none-left
+gives-all (M ∷ ms) = gives-draw (λ r l. gives-map (Fits (M ∷ ms)) (r ∷_) (gives-all ms) (λ rs f. one-more l f))
 
 -- a planned program, run, is all its draws and then its value: where reading the plan gives rs and the place q, the run gives
 -- the value fed by rs and the place q, and where reading the plan ends, so does the run

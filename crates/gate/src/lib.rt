@@ -58,10 +58,7 @@ pub fn first_stated(n: usize, coefficients: usize, room: usize, in_range: bool) 
     if room != coefficients * n {
         return 2;
     }
-    if !in_range {
-        return 3;
-    }
-    0
+    if in_range { 0 } else { 3 }
 }
 
 // The same with shares: none is looked at before the parameters are found to be in range.
@@ -105,10 +102,8 @@ pub fn copy_out(words: [u32; Params::MOST], out: &mut [u32])
 pub fn clear(out: &mut [u32])
     ensures { λ _. ⌜ now (out .exit) ≡ replicate (length (now (out .entry))) 0 ⌝ }
 {
-    let mut i = 0;
-    while i < out.len() {
+    for i in 0..out.len() {
         out[i] = 0;
-        i += 1;
     }
 }
 

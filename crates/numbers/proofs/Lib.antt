@@ -6,3 +6,4 @@ pub mod FoldLaws
 pub mod BitsLaws
 pub mod AlongLaws
 pub mod SumLaws
+pub mod CentredLaws

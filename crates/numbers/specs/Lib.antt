@@ -2,3 +2,4 @@ pub mod Tests
 pub mod Modulo
 pub mod Bits
 pub mod Lists
+pub mod Centred

@@ -1,3 +1,5 @@
 pub mod DrawingLaws
 pub mod StepLaws
 pub mod RowLaws
+pub mod ValueLaws
+pub mod MaskLaws

@@ -1,11 +1,11 @@
 -- Laws of the rows of a polynomial: what the loop over its coefficients goes by.
 use mathlib.Core.Path.{_≡_, refl, sym, ap, ap₂, subst, _∙_}
-use mathlib.Core.List.{List, _++_}
+use mathlib.Core.List.{List, _++_, append-assoc}
 use Prim.Native.Nat.{ℕ, _+_, _-_, _*_, _≤_, _<_}
 use native.Mathlib.Nat.{suc-mul, mul-le-mul-right}
 use native.Mathlib.Omega.{arith}
-use lib.ListN.{length, take, drop, length-append, length-drop}
-use lib.Seq.{length-take-le, drop-drop}
+use lib.ListN.{length, take, drop, length-append, length-drop, take-append-drop}
+use lib.Seq.{length-take-le, take-take, take-at, drop-at, drop-drop}
 use Rattle.params.specs.declared.Params.{Params}
 use Rattle.tape.specs.declared.Cursor.{Cursor}
 use Rattle.tape.specs.Tape.{Ran, ended, ran, start}
@@ -27,6 +27,23 @@ filled-length place ys out h =
     length-append (take place out) (ys ++ drop (place + length ys) out)
     ∙ ap₂ _+_ (length-take-le place out (omega arith)) (length-append ys (drop (place + length ys) out) ∙ ap (length ys +_) (length-drop (place + length ys) out))
     ∙ omega arith
+
+-- and stand after those before them
+pub filled-upto : (place : ℕ) (ys out : List ℕ) → place ≤ length out → take (place + length ys) (filled place ys out) ≡ take place out ++ ys
+unfolding filled
+filled-upto place ys out h =
+    ap (take (place + length ys)) (sym (append-assoc (take place out) ys (drop (place + length ys) out)))
+    ∙ take-at (take place out ++ ys) (drop (place + length ys) out) (place + length ys) (length-append (take place out) ys ∙ ap (_+ length ys) (length-take-le place out h))
+
+-- what a list has before a place, and the n words from there on, of a list that begins so
+module _ (a n : ℕ) (xs ps ys : List ℕ) (begins : take (a + n) xs ≡ ps ++ ys) (before : length ps ≡ a) where
+  pub front-of : take a xs ≡ ps
+  front-of = sym (take-take a (a + n) xs (omega arith)) ∙ ap (take a) begins ∙ take-at ps ys a before
+
+  pub part-of : length ys ≡ n → take n (drop a xs) ≡ ys
+  part-of e =
+      ap (λ (l : List ℕ). take n (drop a l)) (sym (take-append-drop (a + n) xs) ∙ ap (_++ drop (a + n) xs) begins ∙ append-assoc ps ys (drop (a + n) xs))
+      ∙ ap (take n) (drop-at ps (ys ++ drop (a + n) xs) a before) ∙ take-at ys (drop (a + n) xs) n e
 
 -- n words are lent
 pub lent-length : (place n : ℕ) (out : List ℕ) → place + n ≤ length out → length (take (place + n - place) (drop place out)) ≡ n

@@ -1,12 +1,13 @@
--- A number moved from one share to another: which shares change, that their words stay below the bound, and that the value is kept.
-use mathlib.Core.Path.{_≡_, sym, ap, _∙_}
+-- A number added to a share, taken from one, or moved from one to another: which shares change, that their words stay below the bound, and
+-- what becomes of the value.
+use mathlib.Core.Path.{_≡_, sym, ap, subst, _∙_}
 use mathlib.Core.Logic.{_≢_}
 use mathlib.Core.List.{List}
 use Prim.Native.Nat.{ℕ, _<_}
 use native.Mathlib.Omega.{arith}
 use lib.ListN.{length, getD, take}
 use Rattle.numbers.specs.Lists.{Words, fold, change}
-use Rattle.numbers.proofs.GroupLaws.{Group, add-cancel}
+use Rattle.numbers.proofs.GroupLaws.{Group, add-cancel, add-sub}
 use Rattle.numbers.proofs.WordsLaws.{words-at, words-change, length-change, change-here, change-other, take-change}
 use Rattle.numbers.proofs.FoldLaws.{fold-below, fold-add, fold-sub}
 use Rattle.shares.specs.Sharing.{Sharing, bound, plus, minus, move}
@@ -38,27 +39,38 @@ module _ (s : Sharing) (from to r : ℕ) (xs : List ℕ) where
       take-change (λ x. minus s x r) n from (change (λ x. plus s x r) to xs) a
       ∙ ap (change (λ x. minus s x r) from) (take-change (λ x. plus s x r) n to xs b)
 
-module _ (s : Sharing) (pos : 0 < bound s) (from to r : ℕ) (h : r < bound s) where
-  open Group (group s pos) using (add-below, sub-below)
+-- a number added to a share is added to the value, and one taken from a share is taken from it
+module _ (s : Sharing) (pos : 0 < bound s) (i r : ℕ) (h : r < bound s) {n v : ℕ} {xs : List ℕ} (l : i < n) (a : Shares s n v xs) where
+  open Group (group s pos) using (add-below, sub-below, sub-add)
 
-  added : {n : ℕ} {xs : List ℕ} → Words n (bound s) xs → Words n (bound s) (change (λ x. plus s x r) to xs)
-  added {xs = xs} w = words-change (λ x. plus s x r) to w (add-below (getD xs to 0) r (words-at pos w to) h)
-
-  move-words : {n : ℕ} {xs : List ℕ} → Words n (bound s) xs → Words n (bound s) (move s from to r xs)
-  unfolding move
-  move-words w = let u = added w in words-change (λ x. minus s x r) from u (sub-below _ r (words-at pos u from) h)
-
-  pub move-keeps : {n : ℕ} {xs : List ℕ} {v : ℕ} → from < n → to < n → Shares s n v xs → Shares s n v (move s from to r xs)
-  unfolding move
-  move-keeps {xs = xs} hf ht a =
-      let w = a .words in
-      let u : List ℕ = change (λ x. plus s x r) to xs in
-      let t : List ℕ = move s from to r xs in
+  pub added-value : Shares s n (plus s v r) (change (λ x. plus s x r) i xs)
+  added-value =
       record {
-        words = move-words w;
+        words = words-change (λ x. plus s x r) i (a .words) (add-below (getD xs i 0) r (words-at pos (a .words) i) h);
+        is =
+            sym (fold-value s pos (change (λ x. plus s x r) i xs)) ∙ fold-add (group s pos) i r xs h (a .words) (omega (arith, a .words .size))
+            ∙ ap (λ x. plus s x r) (fold-value s pos xs ∙ a .is);
+      }
+
+  pub taken-value : Shares s n (minus s v r) (change (λ x. minus s x r) i xs)
+  taken-value =
+      let t : List ℕ = change (λ x. minus s x r) i xs in
+      let w : Words n (bound s) t = words-change (λ x. minus s x r) i (a .words) (sub-below (getD xs i 0) r (words-at pos (a .words) i) h) in
+      let f : ℕ = fold (plus s) xs in
+      let below : f < bound s = fold-below (group s pos) xs (a .words) in
+      record {
+        words = w;
         is =
             sym (fold-value s pos t)
-            ∙ add-cancel (group s pos) (fold (plus s) t) (fold (plus s) xs) r (fold-below (group s pos) t (move-words w)) (fold-below (group s pos) xs w) h
-            (fold-sub (group s pos) from r u h (added w) (omega (arith, added w .size)) ∙ fold-add (group s pos) to r xs h w (omega (arith, w .size)))
-            ∙ fold-value s pos xs ∙ a .is;
+            ∙ add-cancel (group s pos) (fold (plus s) t) (minus s f r) r (fold-below (group s pos) t w) (sub-below f r below h) h
+            (fold-sub (group s pos) i r xs h (a .words) (omega (arith, a .words .size)) ∙ sym (sub-add f r below h))
+            ∙ ap (λ x. minus s x r) (fold-value s pos xs ∙ a .is);
       }
+
+-- so to move one keeps the value
+pub move-keeps : (s : Sharing) → 0 < bound s → (from to r : ℕ) → r < bound s → {n : ℕ} {xs : List ℕ} {v : ℕ} → from < n → to < n → Shares s n v xs → Shares s n v (move s from to r xs)
+unfolding move
+move-keeps s pos from to r h {xs = xs} {v} hf ht a =
+    let b = taken-value s pos from r h hf (added-value s pos to r h ht a) in
+    let below : v < bound s = subst (λ (x : ℕ). x < bound s) (fold-value s pos xs ∙ a .is) (fold-below (group s pos) xs (a .words)) in
+    record { words = b .words; is = b .is ∙ add-sub (group s pos) v r below h }

@@ -1,10 +1,11 @@
 //! The gadgets of document 01: the refusals in their order, the steps, and the closing refresh.
 
 use crate::conversions::{bits_of_sum, sum_mod_q, sum_of_boolean, Q};
+use crate::sampling;
 use crate::steps::{refresh_sum, refresh_xor, shift_by};
 use crate::tape::Tape;
 
-/// What a caller gets back; the output slice is `None` where it stays unchanged.
+/// What a caller gets back; `out` is what the output slice then holds, `None` where it stays unchanged.
 pub struct Answer {
     pub number: u32,
     pub used: usize,
@@ -14,13 +15,23 @@ pub struct Answer {
 /// The first of the numbers 1 to 4 that applies. `limit` is what the shares are below, `None` if a parameter is out of range.
 fn refusal(shares: &[u32], room: usize, limit: Option<u64>) -> Option<u32> {
     let count = shares.len();
-    let found = [
-        (1, !(2..=8).contains(&count)),
-        (2, room != count),
-        (3, limit.is_none()),
-        (4, shares.iter().any(|&x| Some(u64::from(x)) >= limit)),
-    ];
-    found.iter().find(|(_, fails)| *fails).map(|(number, _)| *number)
+    let wrong_share = shares.iter().any(|&x| Some(u64::from(x)) >= limit);
+    first(&[(1, wrong_count(count)), (2, room != count), (3, limit.is_none()), (4, wrong_share)])
+}
+
+/// The same for a sampler, which has no shares to look at and writes `rows` times as many words as the stated count.
+fn sampler_refusal(count: usize, room: usize, rows: usize, set: Option<sampling::Set>) -> Option<u32> {
+    let wrong_room = room as u128 != rows as u128 * count as u128;
+    first(&[(1, wrong_count(count)), (2, wrong_room), (3, set.is_none())])
+}
+
+fn wrong_count(count: usize) -> bool {
+    !(2..=8).contains(&count)
+}
+
+/// The first number whose test fails.
+fn first(tests: &[(u32, bool)]) -> Option<u32> {
+    tests.iter().find(|(_, fails)| *fails).map(|(number, _)| *number)
 }
 
 /// The answer of a call: a refusal, number 5 if the steps met the tape's end, or their shares.
@@ -79,4 +90,36 @@ pub fn to_arithmetic(shares: &[u32], tape: &[u32], width: u32, room: usize) -> A
 pub fn to_mod_q(shares: &[u32], tape: &[u32], width: u32, room: usize) -> Answer {
     let steps = |tape: &mut Tape| refresh_sum(&sum_mod_q(&wide(shares), width, tape)?, Q, tape);
     answer(refusal(shares, room, power(width, 20)), tape, steps)
+}
+
+pub fn sample(tape: &[u32], n: usize, set: u32, room: usize) -> Answer {
+    let set = sampling::set(set);
+    let steps = |tape: &mut Tape| sampling::coefficient(set?, n, tape);
+    answer(sampler_refusal(n, room, 1, set), tape, steps)
+}
+
+pub fn sample_polynomial(tape: &[u32], n: usize, set: u32, room: usize) -> Answer {
+    let known = sampling::set(set);
+    let steps = |tape: &mut Tape| sampling::polynomial(known?, n, tape);
+    let told = answer(sampler_refusal(n, room, sampling::COEFFICIENTS, known), tape, steps);
+    if told.number == 5 {
+        return Answer { out: Some(vec![0; room]), ..told };
+    }
+    if let Some(words) = &told.out {
+        assert_eq!(one_by_one(&tape[..told.used], n, set), *words);
+    }
+    told
+}
+
+/// A polynomial made by `sample`, each coefficient on the part of the tape that those before it leave. None of it is left over.
+fn one_by_one(tape: &[u32], n: usize, set: u32) -> Vec<u32> {
+    let mut left = tape;
+    let mut words = Vec::new();
+    for _ in 0..sampling::COEFFICIENTS {
+        let told = sample(left, n, set, n);
+        left = &left[told.used..];
+        words.extend(told.out.unwrap_or_default());
+    }
+    assert!(left.is_empty());
+    words
 }

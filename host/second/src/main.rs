@@ -4,6 +4,7 @@
 mod conversions;
 mod inputs;
 mod library;
+mod sampling;
 mod steps;
 mod tape;
 
@@ -11,6 +12,7 @@ use inputs::{Gadget, Input};
 use library::Answer;
 use tape::Tape;
 
+#[derive(Default)]
 struct Tally {
     counts: [u32; 6],
     sum: u32,
@@ -24,18 +26,18 @@ impl Tally {
     }
 }
 
-/// The words of a slice that began as 7s and was lent to a call.
-fn slice_after(answer: &Answer, length: usize) -> Vec<u32> {
-    let mut slice = vec![7; length];
+/// The words of the array, which began as 7s and whose first words were lent to the call.
+fn array_after(answer: &Answer, input: &Input) -> Vec<u32> {
+    let mut array = vec![7; input.array];
     if let Some(out) = &answer.out {
-        slice[..out.len()].copy_from_slice(out);
+        array[..out.len()].copy_from_slice(out);
     }
-    slice
+    array
 }
 
 fn call(gadget: &Gadget, input: &Input, words: usize, tally: &mut Tally) -> usize {
     let answer = gadget.call(input, words);
-    tally.note(&answer, &slice_after(&answer, 10));
+    tally.note(&answer, &array_after(&answer, input));
     answer.used
 }
 
@@ -44,18 +46,30 @@ fn joined(words: &[u32]) -> String {
     words.join(" ")
 }
 
+fn print_tally(gadget: &Gadget, calls: &str, tally: &Tally) {
+    println!("{} {} {} {}", gadget.name, calls, joined(&tally.counts), tally.sum);
+}
+
 fn line(gadget: &Gadget, n: usize) {
-    let mut tally = Tally { counts: [0; 6], sum: 0 };
-    for round in 0..inputs::ROUNDS {
+    let mut tally = Tally::default();
+    for round in 0..gadget.size.rounds {
         let input = gadget.input(n, round);
         let used = call(gadget, &input, input.tape.len(), &mut tally);
         if used > 0 {
-            for words in [used, used - 1, used.saturating_sub(n), used / 2] {
+            for words in gadget.cuts(n, used) {
                 call(gadget, &input, words, &mut tally);
             }
         }
     }
-    println!("{} {} {} {}", gadget.name, n, joined(&tally.counts), tally.sum);
+    print_tally(gadget, &n.to_string(), &tally);
+}
+
+fn far_line(sampler: &Gadget) {
+    let mut tally = Tally::default();
+    for input in &inputs::far() {
+        call(sampler, input, input.tape.len(), &mut tally);
+    }
+    print_tally(sampler, "far", &tally);
 }
 
 fn draw_line(words: &[u32]) {
@@ -68,7 +82,7 @@ fn draw_line(words: &[u32]) {
 
 fn hand_line(gadget: &Gadget, input: &Input) {
     let answer = gadget.call(input, input.tape.len());
-    println!("{} {} {} {}", gadget.name, answer.number, answer.used, joined(&slice_after(&answer, input.room)));
+    println!("{} {} {} {}", gadget.name, answer.number, answer.used, joined(&array_after(&answer, input)));
 }
 
 fn main() {
@@ -82,4 +96,6 @@ fn main() {
             line(gadget, n);
         }
     }
+    far_line(&inputs::SAMPLE);
+    far_line(&inputs::SAMPLE_POLYNOMIAL);
 }

@@ -4,10 +4,10 @@ use Rattle.cases.proofs.main.Statement.{statement}
 use Rattle.cases.proofs.main.Tie as tie
 
 abbrev Inv-loop : tie.InvT-loop
-Inv-loop gadget₀ gadget = gadget ≤ 7
+Inv-loop gadget₀ gadget = gadget ≤ 9
 
 abbrev μ-loop : tie.MeasureT-loop
-μ-loop gadget₀ gadget = 7 - gadget
+μ-loop gadget₀ gadget = 9 - gadget
 
 by-hand-requires : tie.Need-by-hand-requires Inv-loop μ-loop
 by-hand-requires c κs = search needs
@@ -27,6 +27,12 @@ loop-less c = search needs
 loop-again : tie.Need-loop-again Inv-loop μ-loop
 loop-again c = search needs
 
+far-line-requires : tie.Need-far-line-requires Inv-loop μ-loop
+far-line-requires c κs = search needs
+
+far-line-requires-2 : tie.Need-far-line-requires-2 Inv-loop μ-loop
+far-line-requires-2 c κs = search needs
+
 returns : tie.Need-returns Inv-loop μ-loop
 returns c = search needs
 
@@ -42,4 +48,6 @@ main-spec =
     add-gadget
     loop-less
     loop-again
+    far-line-requires
+    far-line-requires-2
     returns)

@@ -10,10 +10,10 @@ use Rattle.gate.proofs.clear.Statement.{statement}
 use Rattle.gate.proofs.clear.Tie as tie
 
 abbrev Inv-loop : tie.InvT-loop
-Inv-loop out₀ i₀ out i = (i ≤ length out₀) × (length out ≡ length out₀) × (out ≡ replicate i 0 ++ drop i out₀)
+Inv-loop out₀ i₀ i-end out i = (i ≤ length out₀) × (length out ≡ length out₀) × (out ≡ replicate i 0 ++ drop i out₀)
 
 abbrev μ-loop : tie.MeasureT-loop
-μ-loop out₀ i₀ out i = length out₀ - i
+μ-loop out₀ i₀ i-end out i = length out₀ - i
 
 loop-holds : tie.Need-loop-holds Inv-loop μ-loop
 loop-holds c = (search needs, search needs, refl)

@@ -4,7 +4,6 @@ use mathlib.Core.Path.{_≡_}
 use Prim.Native.Nat.{_*_, _≤_}
 use native.Mathlib.Nat.{mul-le-mul}
 use native.Mathlib.Omega.{arith}
-use borrow.Author.Tests.{not-true, not-false}
 use Rattle.gate.specs.Checks.{inside, firstFailing}
 use Rattle.gate.proofs.CheckLaws.{inside-yes, inside-low, inside-high, fails-1, fails-2, fails-3, fails-later}
 use Rattle.gate.proofs.first_stated.Statement.{statement}
@@ -31,11 +30,11 @@ returns-3 : tie.Need-returns-3
 returns-3 c = fails-2 _ _ _ _ _ (count (c .before)) (c .if3 .taken)
 
 returns-4 : tie.Need-returns-4
-returns-4 c = fails-3 _ _ _ _ _ (count (c .before .before)) (c .before .if3 .left) (not-true _ (c .if4 .taken))
+unfolding firstFailing
+returns-4 c = fails-later _ _ _ _ _ (count (c .before .before)) (c .before .if3 .left) (c .if4 .taken)
 
 returns-5 : tie.Need-returns-5
-unfolding firstFailing
-returns-5 c = fails-later _ _ _ _ _ (count (c .before .before)) (c .before .if3 .left) (not-false _ (c .if4 .left))
+returns-5 c = fails-3 _ _ _ _ _ (count (c .before .before)) (c .before .if3 .left) (c .if4 .left)
 
 pub first-stated-spec : {M : Type 1} → statement M
 first-stated-spec = tie.close (tie.spec returns returns-2 mul-if3 returns-3 returns-4 returns-5)

@@ -4,10 +4,16 @@ use Rattle.cases.proofs.calls.all_rounds.Statement.{statement}
 use Rattle.cases.proofs.calls.all_rounds.Tie as tie
 
 abbrev Inv-loop : tie.InvT-loop
-Inv-loop gadget n t₀ r₀ t r = r ≤ 600
+Inv-loop gadget n t₀ r₀ r-end t r = r ≤ r-end
 
 abbrev μ-loop : tie.MeasureT-loop
-μ-loop gadget n t₀ r₀ t r = 600 - r
+μ-loop gadget n t₀ r₀ r-end t r = r-end - r
+
+start-requires : tie.Need-start-requires Inv-loop μ-loop
+start-requires c κs = search needs
+
+rounds-requires : tie.Need-rounds-requires Inv-loop μ-loop
+rounds-requires c κs = search needs
 
 loop-holds : tie.Need-loop-holds Inv-loop μ-loop
 loop-holds c = search needs
@@ -36,6 +42,8 @@ all-rounds-spec =
     (tie.spec
     Inv-loop
     μ-loop
+    start-requires
+    rounds-requires
     loop-holds
     slice-aggregate-round
     round-requires

@@ -8,17 +8,14 @@ use Rattle.cases.proofs.calls.round.Tie as tie
 returns : tie.Need-returns
 returns c = search needs
 
-slice-aggregate-filled : tie.Need-slice-aggregate-filled
-slice-aggregate-filled c = search needs
+slice-relend-prefix-taped : tie.Need-slice-relend-prefix-taped
+slice-relend-prefix-taped c = search needs
 
-slice-relend-prefix-filled : tie.Need-slice-relend-prefix-filled
-slice-relend-prefix-filled c = search needs
+slice-aggregate-taped : tie.Need-slice-aggregate-taped
+slice-aggregate-taped c = sym (length-take-le _ _ (omega arith))
 
-slice-aggregate-filled-2 : tie.Need-slice-aggregate-filled-2
-slice-aggregate-filled-2 c = sym (length-take-le _ _ (omega arith))
-
-filled-requires : tie.Need-filled-requires
-filled-requires c κs = search needs
+taped-requires : tie.Need-taped-requires
+taped-requires c κs = search needs
 
 same-length : tie.Need-same-length
 same-length c = search needs
@@ -31,9 +28,8 @@ round-spec =
     tie.close
     (tie.spec
     returns
-    slice-aggregate-filled
-    slice-relend-prefix-filled
-    slice-aggregate-filled-2
-    filled-requires
+    slice-relend-prefix-taped
+    slice-aggregate-taped
+    taped-requires
     same-length
     returns-2)

@@ -43,8 +43,9 @@ good : (c : tie.Else1) →
 good c = all-counted _ _ _ _ _ (sym (passes c))
 
 -- a refusal by a check leaves the slice
-kept : {out : List ℕ} (m : ℕ) → m ≤ 3 → pick (eqb m 5) (replicate (length out) 0) out ≡ out
-kept m h = rw (ne-eqb m 5 (λ z. omega arith))
+kept : (set : ℕ) (out : List ℕ) (m : ℕ) → m ≤ 3 → polynomialSampler set .leaves m out ≡ out
+unfolding polynomialSampler
+kept set out m h = rw (ne-eqb m 5 (λ z. omega arith))
 
 -- what the writer left stands for the run of the steps
 ran-so : (c : tie.After-polynomial) →
@@ -75,7 +76,7 @@ unfolding polynomialSampler
 returns c =
     let f = c .before in
     let e = f .before in
-    sampler-refused _ _ _ _ false (sym (set-unknown _ _ (e .before .before .of-set .ensures) (e .enum-told .given .1))) kept (f .first-stated .ensures) (fails-out _ _ _ _ (f .first-stated .ensures)) (c .refused .ensures _)
+    sampler-refused _ _ _ _ false (sym (set-unknown _ _ (e .before .before .of-set .ensures) (e .enum-told .given .1))) (kept (e .before .before .before .before .before .args .set) _) (f .first-stated .ensures) (fails-out _ _ _ _ (f .first-stated .ensures)) (c .refused .ensures _)
 
 first-stated-requires-2 : tie.Need-first-stated-requires-2
 first-stated-requires-2 c κs = search needs
@@ -87,7 +88,7 @@ returns-2 : tie.Need-returns-2
 unfolding polynomialSampler
 returns-2 c =
     let f = c .before .before in
-    sampler-refused _ _ _ _ true (found (f .before)) kept (f .first-stated2 .ensures) (c .before .if1 .taken) (c .refused2 .ensures _)
+    sampler-refused _ _ _ _ true (found (f .before)) (kept (f .before .before .before .before .before .before .before .args .set) _) (f .first-stated2 .ensures) (c .before .if1 .taken) (c .refused2 .ensures _)
 
 polynomial-requires : tie.Need-polynomial-requires
 polynomial-requires c κs =

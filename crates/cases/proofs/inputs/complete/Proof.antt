@@ -1,8 +1,8 @@
 use borrow.Author.Needs.{needs}
 use Prim.Native.Nat.{_≤_, _<_, _-_}
 use lib.ListN.{length}
-use Rattle.cases.proofs.shares.complete.Statement.{statement}
-use Rattle.cases.proofs.shares.complete.Tie as tie
+use Rattle.cases.proofs.inputs.complete.Statement.{statement}
+use Rattle.cases.proofs.inputs.complete.Tie as tie
 
 abbrev Inv-loop : tie.InvT-loop
 Inv-loop gadget shares value m last left₀ i₀ left i = (last < length shares) × (i ≤ last)

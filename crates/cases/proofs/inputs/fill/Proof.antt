@@ -3,8 +3,8 @@ use mathlib.Core.Path.{_≡_}
 use Prim.Native.Nat.{_≤_, _-_}
 use native.Mathlib.Omega.{arith}
 use lib.ListN.{length, length-set}
-use Rattle.cases.proofs.shares.fill.Statement.{statement}
-use Rattle.cases.proofs.shares.fill.Tie as tie
+use Rattle.cases.proofs.inputs.fill.Statement.{statement}
+use Rattle.cases.proofs.inputs.fill.Tie as tie
 
 abbrev Inv-loop : tie.InvT-loop
 Inv-loop words₀ m start x₀ i₀ i-end words x i = (length words ≡ length words₀) × (i-end ≡ length words₀) × (i ≤ i-end)

@@ -1,12 +1,45 @@
 // The shares that a round calls with, and the room for the output.
 use super::tally::step;
 
+// The difference, or 0 if there is none.
+pub fn less(x: usize, y: usize) -> usize {
+    if x < y {
+        return 0;
+    }
+    x - y
+}
+
 // How many words the output slice has.
-pub fn room_for(n: usize, r: u32) -> usize {
+pub fn room_for(gadget: u32, n: usize, r: u32) -> usize {
+    if gadget == 8 {
+        return polynomial_room(n, r);
+    }
     match r % 7 {
         3 => n / 2,
         5 => 10,
         _ => n,
+    }
+}
+
+fn lesser(x: usize, y: usize) -> usize {
+    if x < y {
+        return x;
+    }
+    y
+}
+
+// The same for a polynomial, of ten shares at most: these fill the array.
+fn polynomial_room(n: usize, r: u32) -> usize {
+    if 10 < n {
+        return 2560;
+    }
+    match r / 8 {
+        0 => 256 * n,
+        1 => n,
+        2 => less(256 * n, 1),
+        3 => lesser(256 * n + 1, 2560),
+        4 => 0,
+        _ => 2560,
     }
 }
 

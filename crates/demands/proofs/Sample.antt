@@ -1,0 +1,76 @@
+-- Both samplers meet demands 1 and 2, their answers are unique, and how many draws they make.
+use mathlib.Core.Path.{_≡_, ap₂, _∙_}
+use mathlib.Core.List.{List, [], _++_}
+use Prim.Native.Nat.{ℕ, zero, suc, _+_, _-_, _*_, _^_, _<_}
+use native.Mathlib.Omega.{arith}
+use lib.ListN.{length, length-append, length-replicate}
+use Rattle.numbers.specs.Modulo.{q}
+use Rattle.numbers.specs.Bits.{alpha}
+use Rattle.numbers.specs.Lists.{over}
+use Rattle.params.specs.Sets.{Known, known, paramsOf}
+use Rattle.params.proofs.SetLaws.{set-laws, known-yes, known-so}
+use Rattle.sample.specs.Sampling.{maskPlan, coefficientPlan, polynomialPlan}
+use Rattle.sample.proofs.ValueLaws.{coefficient-gives, polynomial-gives}
+use Rattle.sample.proofs.MaskLaws.{coefficient-masks, polynomial-masks}
+use Rattle.gate.specs.Told.{standsFor}
+use Rattle.gate.specs.Sampler.{samples}
+use Rattle.gadgets.specs.Convert.{toModQGadget}
+use Rattle.gadgets.specs.Sample.{sampler, polynomialSampler}
+use Rattle.demands.specs.Claim.{plan}
+use Rattle.demands.specs.Convert.{toModQClaim}
+use Rattle.demands.specs.Demands.{SamplerDemands}
+use Rattle.demands.specs.Unique.{Unique}
+use Rattle.demands.specs.Sample.{samplerClaim, polynomialClaim}
+use Rattle.demands.proofs.Answers.{Range}
+use Rattle.demands.proofs.SamplerSteps.{SamplerSteps}
+use Rattle.demands.proofs.Demands.{sampler-demands}
+use Rattle.demands.proofs.Convert.{to-mod-q-call-draws}
+use Rattle.demands.proofs.Unique.{unique-told}
+
+set-range : (set : ℕ) → Range (known set) (Known set) q
+set-range set = record { in-range = known-so set; range-in = known-yes; positive = λ k. omega arith; word = λ k. omega arith }
+
+sampler-steps : (set : ℕ) → SamplerSteps (samplerClaim set) q
+unfolding sampler
+sampler-steps set =
+    record {
+      range = set-range set;
+      planned = λ k n least most out e. coefficient-gives (set-laws k) n (omega arith) most .plan;
+      leaves = λ k n least most tape out e r. coefficient-masks (set-laws k) n (omega arith) most tape r;
+    }
+
+polynomial-steps : (set : ℕ) → SamplerSteps (polynomialClaim set) q
+unfolding polynomialSampler
+polynomial-steps set =
+    record {
+      range = set-range set;
+      planned = λ k n least most out e. polynomial-gives (set-laws k) n (omega arith) most out e .plan;
+      leaves = λ k n least most tape out e r. polynomial-masks (set-laws k) n (omega arith) most tape out e r;
+    }
+
+pub sample-demands : (set : ℕ) → SamplerDemands (samplerClaim set)
+sample-demands set = sampler-demands (sampler-steps set)
+
+pub sample-polynomial-demands : (set : ℕ) → SamplerDemands (polynomialClaim set)
+sample-polynomial-demands set = sampler-demands (polynomial-steps set)
+
+pub sample-unique : (set n : ℕ) (tape out : List ℕ) → Unique standsFor (samples (sampler set) n tape out)
+sample-unique set n tape out = unique-told (samples (sampler set) n tape out)
+
+pub sample-polynomial-unique : (set n : ℕ) (tape out : List ℕ) → Unique standsFor (samples (polynomialSampler set) n tape out)
+sample-polynomial-unique set n tape out = unique-told (samples (polynomialSampler set) n tape out)
+
+-- 3·2^d − 3 + n + α·d² draws a coefficient, for d = n - 1, and 256 times as many a polynomial
+pub sample-call-draws : (set n : ℕ) → 0 < n → length (coefficientPlan (paramsOf set) n) ≡ 3 * 2 ^ (n - 1) - 3 + n + alpha n * ((n - 1) * (n - 1))
+unfolding coefficientPlan plan toModQGadget
+sample-call-draws set n h =
+    let μ : ℕ = paramsOf set .mu in
+    length-append (maskPlan (paramsOf set) n) (plan (toModQClaim μ) n) ∙ ap₂ _+_ (length-replicate n (2 ^ μ)) (to-mod-q-call-draws μ n h) ∙ omega arith
+
+pub sample-polynomial-call-draws : (set n : ℕ) → length (polynomialPlan (paramsOf set) n) ≡ 256 * length (coefficientPlan (paramsOf set) n)
+unfolding polynomialPlan over
+sample-polynomial-call-draws set n = go 256
+  where
+    go : (k : ℕ) → length (over (λ c ms. coefficientPlan (paramsOf set) n ++ ms) k []) ≡ k * length (coefficientPlan (paramsOf set) n)
+    go zero = omega arith
+    go (suc k) = length-append (coefficientPlan (paramsOf set) n) _ ∙ rw (go k) (omega arith)

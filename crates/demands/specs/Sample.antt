@@ -1,0 +1,28 @@
+-- What is claimed of both samplers (document 01, "Sampling" and "What a caller gets back").
+use Prim.Native.Nat.{ℕ}
+use Rattle.params.specs.Sets.{Known, paramsOf}
+use Rattle.tape.specs.Tape.{start}
+use Rattle.sample.specs.Sampling.{coefficientPlan, polynomialPlan}
+use Rattle.sample.specs.Masks.{Mask, Masks}
+use Rattle.gadgets.specs.Sample.{sampler, polynomialSampler}
+use Rattle.demands.specs.SamplerClaim.{SamplerClaim}
+
+-- one coefficient of a mask
+abbrev pub samplerClaim : ℕ → SamplerClaim
+samplerClaim set =
+    record {
+      sampler = sampler set;
+      InRange = Known set;
+      draws = coefficientPlan (paramsOf set);
+      Leaves = λ n tape p out. Mask (paramsOf set) n tape start p out;
+    }
+
+-- the 256 of a polynomial
+abbrev pub polynomialClaim : ℕ → SamplerClaim
+polynomialClaim set =
+    record {
+      sampler = polynomialSampler set;
+      InRange = Known set;
+      draws = polynomialPlan (paramsOf set);
+      Leaves = λ n tape p out. Masks (paramsOf set) n tape p out;
+    }

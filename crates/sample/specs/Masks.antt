@@ -1,0 +1,39 @@
+-- What a sampled mask is, in shares: one coefficient, and the coefficients of a polynomial (document 01, "Sampling").
+use mathlib.Core.Path.{_≡_}
+use mathlib.Core.List.{List}
+use Prim.Native.Nat.{ℕ, suc, _-_, _*_, _<_}
+use lib.ListN.{take, drop}
+use lib.IntN.{pos, negℤ, _-ℤ_}
+use lib.Signed.{_≤ℤ_}
+use Rattle.numbers.specs.Modulo.{q}
+use Rattle.numbers.specs.Lists.{Words, xorAll}
+use Rattle.numbers.specs.Centred.{centred}
+use Rattle.params.specs.declared.Params.{Params}
+use Rattle.tape.specs.declared.Cursor.{Cursor}
+use Rattle.tape.specs.Tape.{ran, start}
+use Rattle.draws.specs.Draws.{run}
+use Rattle.draws.specs.Plan.{drawAll}
+use Rattle.shares.specs.Sharing.{arithmetic, value}
+use Rattle.sample.specs.Sampling.{maskPlan, coefficient}
+
+-- the n shares ys of one coefficient, from its own part of the tape
+pub record Mask (p : Params) (n : ℕ) (tape : List ℕ) (from to : Cursor) (ys : List ℕ) : Type 0 where
+  pub steps : run (coefficient p n) tape from ≡ ran ys to
+  pub words : Words n q ys
+  -- the words that are drawn first
+  pub drawn : List ℕ
+  pub place : Cursor
+  pub first : run (drawAll (maskPlan p n)) tape from ≡ ran drawn place
+  -- the value is their exclusive or, less γ1 − 1
+  pub recombined : centred q (value (arithmetic q) ys) ≡ pos (xorAll drawn) -ℤ pos (p .gamma1 - 1)
+  -- and lies in −γ1+1 .. γ1
+  pub least : negℤ (pos (p .gamma1 - 1)) ≤ℤ centred q (value (arithmetic q) ys)
+  pub most : centred q (value (arithmetic q) ys) ≤ℤ pos (p .gamma1)
+
+-- 256 coefficients, each at its place c·n, each from its own part of the tape: where one ends, the next begins
+pub record Masks (p : Params) (n : ℕ) (tape : List ℕ) (to : Cursor) (out : List ℕ) : Type 0 where
+  pub words : Words (256 * n) q out
+  pub places : ℕ → Cursor
+  pub begins : places 0 ≡ start
+  pub ends : places 256 ≡ to
+  pub coefficients : (c : ℕ) → c < 256 → Mask p n tape (places c) (places (suc c)) (take n (drop (c * n) out))
