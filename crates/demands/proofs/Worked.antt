@@ -17,11 +17,16 @@ use Rattle.switching.specs.ToModulus.{toModulus}
 use Rattle.gate.specs.Checks.{inside, allBelow, firstFailing, checksOf, checks}
 use Rattle.gate.specs.Told.{refusal, ranTold, checkNumber, told}
 use Rattle.gate.specs.Gadget.{silentSteps, closed, tells}
+use Rattle.gate.specs.Sampler.{samples}
+use Rattle.params.specs.Sets.{setOf, known, paramsOf}
+use Rattle.draws.specs.Plan.{drawAll}
+use Rattle.sample.specs.Sampling.{lowered, coefficient, filled, row, polynomial}
 use Rattle.gadgets.specs.Shift.{shiftRange, shiftGadget, toBooleanGadget}
 use Rattle.gadgets.specs.Convert.{toArithmeticGadget, toModQGadget}
+use Rattle.gadgets.specs.Sample.{sampler, polynomialSampler}
 use Rattle.gadgets.specs.Refresh.{refreshGadget, booleanGadget}
 use Rattle.demands.specs.Worked.{Worked}
 
 pub worked : Worked
-unfolding leadingZeros addMod subMod negMod xor bitsOf change along over lowBits drawFrom drawAt after next run bind turns each move turn refresh negated join joinTurn sharedParity less moveParity evened halves halving shift withBit bitsFrom toBoolean psi psis zOf added rule toArithmetic floors raised raisedShift carries without toModulus powerFrom alpha inside allBelow firstFailing checksOf checks refusal ranTold silentSteps closed checkNumber told tells shiftRange shiftGadget toBooleanGadget toArithmeticGadget toModQGadget refreshGadget booleanGadget
-worked = record { refreshed = refl; refreshed-boolean = refl; shifted = refl; made-boolean = refl; made-arithmetic = refl; made-mod-q = refl; short = refl }
+unfolding leadingZeros addMod subMod negMod xor bitsOf change along over lowBits drawFrom drawAt after next run bind turns each move turn refresh negated join joinTurn sharedParity less moveParity evened halves halving shift withBit bitsFrom toBoolean psi psis zOf added rule toArithmetic floors raised raisedShift carries without toModulus powerFrom alpha inside allBelow firstFailing checksOf checks refusal ranTold silentSteps closed checkNumber told tells shiftRange shiftGadget toBooleanGadget toArithmeticGadget toModQGadget refreshGadget booleanGadget samples setOf known paramsOf drawAll lowered coefficient filled row polynomial sampler polynomialSampler
+worked = record { refreshed = refl; refreshed-boolean = refl; shifted = refl; made-boolean = refl; made-arithmetic = refl; made-mod-q = refl; short = refl; sampled = refl; unknown = refl; wiped = refl; kept = refl }

@@ -2,10 +2,13 @@
 -- moves, where the results of U and Z go, and that the demands speak of something.
 use mathlib.Core.Path.{_≡_}
 use mathlib.Core.List.{[], _∷_}
+use lib.ListN.{replicate}
 use Rattle.gate.specs.Gadget.{tells}
+use Rattle.gate.specs.Sampler.{samples}
 use Rattle.gadgets.specs.Refresh.{refreshGadget, booleanGadget}
 use Rattle.gadgets.specs.Shift.{shiftGadget, toBooleanGadget}
 use Rattle.gadgets.specs.Convert.{toArithmeticGadget, toModQGadget}
+use Rattle.gadgets.specs.Sample.{sampler, polynomialSampler}
 
 pub record Worked : Type 0 where
   -- of 12, 3, 6 the first word is skipped: 3 and 6 go into the first two shares and are taken from the third
@@ -30,3 +33,12 @@ pub record Worked : Type 0 where
       ≡ record { number = 0; opened = []; used = 17; out = 8380017 ∷ 8379948 ∷ 871 ∷ [] }
   -- one word too few, and the output slice stays as it was
   pub short : tells (refreshGadget 10) (7 ∷ 8 ∷ 9 ∷ []) (12 ∷ 3 ∷ []) (1 ∷ 2 ∷ 3 ∷ []) ≡ record { number = 5; opened = []; used = 0; out = 1 ∷ 2 ∷ 3 ∷ [] }
+  -- the low 20 bits of the first three words are 1, 3, 6, whose exclusive or is 4; 4 − 524287 mod q is the sum of the shares. 8380417 is skipped
+  -- in the closing refresh
+  pub sampled : samples (sampler 65) 3 (1048577 ∷ 3 ∷ 6 ∷ 5 ∷ 9 ∷ 2 ∷ 7 ∷ 1 ∷ 4 ∷ 8 ∷ 10 ∷ 11 ∷ 13 ∷ 15 ∷ 17 ∷ 19 ∷ 21 ∷ 23 ∷ 25 ∷ 8380417 ∷ 27 ∷ 29 ∷ []) (0 ∷ 0 ∷ 0 ∷ [])
+      ≡ record { number = 0; opened = []; used = 21; out = 3678250 ∷ 16396 ∷ 4161488 ∷ [] }
+  -- there is no set 66
+  pub unknown : samples (sampler 66) 2 (0 ∷ []) (7 ∷ 7 ∷ []) ≡ record { number = 3; opened = []; used = 0; out = 7 ∷ 7 ∷ [] }
+  -- a polynomial's slice is wiped where the tape ends, and kept where it has the wrong length
+  pub wiped : samples (polynomialSampler 87) 2 (0 ∷ 0 ∷ 0 ∷ 0 ∷ 0 ∷ 0 ∷ 0 ∷ []) (replicate 512 7) ≡ record { number = 5; opened = []; used = 0; out = replicate 512 0 }
+  pub kept : samples (polynomialSampler 87) 2 (0 ∷ []) (replicate 511 7) ≡ record { number = 2; opened = []; used = 0; out = replicate 511 7 }
