@@ -1,6 +1,6 @@
 // The parameter sets of ML-DSA: the constants of each stand here and nowhere else.
 ghost use mathlib.Core.Path.{_≡_};
-ghost use Rattle.params.specs.Sets.{setOf};
+ghost use Rattle.params.specs.Sets.{bounds, setOf};
 ghost use Rattle.params.specs.Answers.{choiceStandsFor};
 
 // Of one kind of coefficient: a size below the bound a is accepted, the reach b is how large it can be, and rho is the verdict's shift.
@@ -8,6 +8,14 @@ pub struct Bounds {
     pub a: u32,
     pub b: u32,
     pub rho: u32,
+}
+
+impl Bounds {
+    fn of(a: u32, b: u32, rho: u32) -> Self
+        ensures { λ r. ⌜ r ≡ bounds a b rho ⌝ }
+    {
+        Bounds { a, b, rho }
+    }
 }
 
 // The constants of one set. Kind 1 is z and kind 2 is r̃.
@@ -43,16 +51,8 @@ impl Params {
                 beta: 78,
                 delta: 44,
                 mu: 18,
-                kind1: Bounds {
-                    a: 130994,
-                    b: 131150,
-                    rho: 8,
-                },
-                kind2: Bounds {
-                    a: 95154,
-                    b: 95232,
-                    rho: 7,
-                },
+                kind1: Bounds::of(130994, 131150, 8),
+                kind2: Bounds::of(95154, 95232, 7),
             }),
             65 => Choice::Set(Params {
                 gamma1: 524288,
@@ -60,16 +60,8 @@ impl Params {
                 beta: 196,
                 delta: 16,
                 mu: 20,
-                kind1: Bounds {
-                    a: 524092,
-                    b: 524484,
-                    rho: 9,
-                },
-                kind2: Bounds {
-                    a: 261692,
-                    b: 261888,
-                    rho: 8,
-                },
+                kind1: Bounds::of(524092, 524484, 9),
+                kind2: Bounds::of(261692, 261888, 8),
             }),
             87 => Choice::Set(Params {
                 gamma1: 524288,
@@ -77,16 +69,8 @@ impl Params {
                 beta: 120,
                 delta: 16,
                 mu: 20,
-                kind1: Bounds {
-                    a: 524168,
-                    b: 524408,
-                    rho: 8,
-                },
-                kind2: Bounds {
-                    a: 261768,
-                    b: 261888,
-                    rho: 7,
-                },
+                kind1: Bounds::of(524168, 524408, 8),
+                kind2: Bounds::of(261768, 261888, 7),
             }),
             _ => Choice::Unknown,
         }
