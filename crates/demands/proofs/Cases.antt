@@ -4,24 +4,24 @@ use lib.Count.{leadingZeros}
 use Rattle.numbers.specs.Modulo.{addMod, subMod, negMod, xor}
 use Rattle.numbers.specs.Bits.{bitsOf}
 use Rattle.numbers.specs.Lists.{change, along, over}
+use Rattle.numbers.specs.Bits.{alpha, powerFrom}
+use Rattle.params.specs.Sets.{setOf, known, paramsOf}
 use Rattle.tape.specs.Tape.{lowBits, drawFrom, drawAt}
 use Rattle.draws.specs.Draws.{after, next, run, bind, turns, each}
+use Rattle.draws.specs.Plan.{drawAll}
 use Rattle.shares.specs.Sharing.{move}
 use Rattle.shares.specs.Refresh.{turn, refresh}
 use Rattle.halving.specs.Halving.{negated, join, joinTurn, sharedParity, less, moveParity, evened, halves, halving}
 use Rattle.shift.specs.Shift.{shift}
 use Rattle.shift.specs.ToBoolean.{withBit, bitsFrom, toBoolean}
 use Rattle.convert.specs.ToArithmetic.{psi, psis, zOf, added, rule, toArithmetic}
+use Rattle.switching.specs.Switching.{floors, raised, raisedShift, carries, without}
+use Rattle.switching.specs.ToModulus.{toModulus}
 use Rattle.gate.specs.Checks.{inside, allBelow, firstFailing, checksOf, checks}
 use Rattle.gate.specs.Told.{refusal, ranTold, checkNumber, told}
 use Rattle.gate.specs.Gadget.{silentSteps, closed, tells}
 use Rattle.gate.specs.Sampler.{samples}
-use Rattle.params.specs.Sets.{setOf, known, paramsOf}
-use Rattle.draws.specs.Plan.{drawAll}
-use Rattle.switching.specs.Switching.{floors, raised, raisedShift, carries, without}
-use Rattle.switching.specs.ToModulus.{toModulus}
 use Rattle.sample.specs.Sampling.{lowered, coefficient}
-use Rattle.numbers.specs.Bits.{alpha, powerFrom}
 use Rattle.gadgets.specs.Shift.{shiftRange, shiftGadget, toBooleanGadget}
 use Rattle.gadgets.specs.Convert.{toArithmeticGadget}
 use Rattle.gadgets.specs.Sample.{sampler}

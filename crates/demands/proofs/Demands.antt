@@ -1,4 +1,5 @@
 -- The demands follow from what a gadget shows of its steps.
+use Prim.Native.Nat.{ℕ}
 use Rattle.demands.specs.Claim.{Claim}
 use Rattle.demands.specs.SamplerClaim.{SamplerClaim}
 use Rattle.demands.specs.Demands.{Demands, SamplerDemands}
@@ -7,7 +8,6 @@ use Rattle.demands.proofs.SamplerSteps.{SamplerSteps, on-none}
 use Rattle.demands.proofs.Refusals as Refusals
 use Rattle.demands.proofs.Values as Values
 use Rattle.demands.proofs.Settings as Settings
-use Prim.Native.Nat.{ℕ}
 
 pub demands : {c : Claim} → Steps c → Demands c
 demands s =

@@ -9,11 +9,11 @@ use Rattle.numbers.specs.Bits.{alpha}
 use Rattle.numbers.specs.Lists.{over}
 use Rattle.params.specs.Sets.{Known, known, paramsOf}
 use Rattle.params.proofs.SetLaws.{set-laws, known-yes, known-so}
+use Rattle.gate.specs.Told.{standsFor}
+use Rattle.gate.specs.Sampler.{samples}
 use Rattle.sample.specs.Sampling.{maskPlan, coefficientPlan, polynomialPlan}
 use Rattle.sample.proofs.ValueLaws.{coefficient-gives, polynomial-gives}
 use Rattle.sample.proofs.MaskLaws.{coefficient-masks, polynomial-masks}
-use Rattle.gate.specs.Told.{standsFor}
-use Rattle.gate.specs.Sampler.{samples}
 use Rattle.gadgets.specs.Convert.{toModQGadget}
 use Rattle.gadgets.specs.Sample.{sampler, polynomialSampler}
 use Rattle.demands.specs.Claim.{plan}

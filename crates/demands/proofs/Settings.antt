@@ -26,7 +26,6 @@ use Rattle.gate.specs.Gadget.{closed, call, tells}
 use Rattle.demands.specs.Call.{Valid}
 use Rattle.demands.specs.Claim.{Claim, Claimed, plan, onShares}
 use Rattle.demands.specs.Settings.{SameTold, closingPlaces, closingAnew, OneSetting, Settings}
-use Rattle.demands.proofs.Answers.{Answers}
 use Rattle.demands.proofs.Steps.{Steps, closed-give, on-shares}
 use Rattle.demands.proofs.Runs.{tells-success, Succeeded, succeeded, success}
 

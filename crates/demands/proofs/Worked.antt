@@ -4,8 +4,10 @@ use lib.Count.{leadingZeros}
 use Rattle.numbers.specs.Modulo.{addMod, subMod, negMod, xor}
 use Rattle.numbers.specs.Bits.{bitsOf, powerFrom, alpha}
 use Rattle.numbers.specs.Lists.{change, along, over}
+use Rattle.params.specs.Sets.{setOf, known, paramsOf}
 use Rattle.tape.specs.Tape.{lowBits, drawFrom, drawAt}
 use Rattle.draws.specs.Draws.{after, next, run, bind, turns, each}
+use Rattle.draws.specs.Plan.{drawAll}
 use Rattle.shares.specs.Sharing.{move}
 use Rattle.shares.specs.Refresh.{turn, refresh}
 use Rattle.halving.specs.Halving.{negated, join, joinTurn, sharedParity, less, moveParity, evened, halves, halving}
@@ -18,8 +20,6 @@ use Rattle.gate.specs.Checks.{inside, allBelow, firstFailing, checksOf, checks}
 use Rattle.gate.specs.Told.{refusal, ranTold, checkNumber, told}
 use Rattle.gate.specs.Gadget.{silentSteps, closed, tells}
 use Rattle.gate.specs.Sampler.{samples}
-use Rattle.params.specs.Sets.{setOf, known, paramsOf}
-use Rattle.draws.specs.Plan.{drawAll}
 use Rattle.sample.specs.Sampling.{lowered, coefficient, filled, row, polynomial}
 use Rattle.gadgets.specs.Shift.{shiftRange, shiftGadget, toBooleanGadget}
 use Rattle.gadgets.specs.Convert.{toArithmeticGadget, toModQGadget}

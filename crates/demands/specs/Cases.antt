@@ -4,10 +4,10 @@ use mathlib.Core.List.{[], _∷_}
 use Prim.Native.Nat.{ℕ}
 use Rattle.numbers.specs.Modulo.{q}
 use Rattle.tape.specs.Tape.{start, ran, drawAt}
+use Rattle.convert.specs.ToArithmetic.{psi}
 use Rattle.gate.specs.Told.{Told}
 use Rattle.gate.specs.Gadget.{tells}
 use Rattle.gate.specs.Sampler.{samples}
-use Rattle.convert.specs.ToArithmetic.{psi}
 use Rattle.gadgets.specs.Shift.{shiftGadget, toBooleanGadget}
 use Rattle.gadgets.specs.Convert.{toArithmeticGadget}
 use Rattle.gadgets.specs.Sample.{sampler}

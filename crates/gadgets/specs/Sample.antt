@@ -1,12 +1,11 @@
 -- Both samplers as gadgets (document 01, "Steps"; the ranges, "What a caller gets back").
-use mathlib.Core.List.{List}
 use Prim.Native.Nat.{ℕ}
 use lib.ListN.{length, replicate}
 use lib.Dec.{eqb}
 use Rattle.numbers.specs.Tests.{pick}
 use Rattle.params.specs.Sets.{known, paramsOf}
-use Rattle.sample.specs.Sampling.{coefficient, polynomial}
 use Rattle.gate.specs.Sampler.{Sampler}
+use Rattle.sample.specs.Sampling.{coefficient, polynomial}
 
 -- one coefficient, of set 44, 65 or 87
 unfoldable pub sampler : ℕ → Sampler

@@ -1,10 +1,10 @@
 -- Laws of residues as signed numbers.
-use mathlib.Core.Path.{_≡_, refl, sym, ap, subst, subst₂, _∙_}
-use Prim.Native.Nat.{ℕ, zero, suc, _+_, _-_, _*_, _/_, _≤_, _<_}
+use mathlib.Core.Path.{_≡_, sym, ap, _∙_}
+use Prim.Native.Nat.{ℕ, zero, suc, _+_, _-_, _/_, _≤_, _<_}
 use native.Mathlib.Decide.{decLe}
 use native.Mathlib.Omega.{arith}
 use lib.Dec.{le→leb}
-use lib.IntN.{ℤ, pos, negsuc, negℤ, subℕ, _-ℤ_}
+use lib.IntN.{pos, negsuc, negℤ, _-ℤ_}
 use lib.Signed.{_≤ℤ_, leZ-yes}
 use borrow.Author.Tests.{lt-ltb, le-ltb, le-leb, lt-leb}
 use Rattle.numbers.specs.Modulo.{subMod}
@@ -51,8 +51,8 @@ module _ (M x g : ℕ) (low : x ≤ g + (M - 1) / 2) (high : g + (M - 1) / 2 < x
   centred-sub = go (decLe g x)
     where
       go : Dec (g ≤ x) → centred M (subMod M x g) ≡ pos x -ℤ pos g
-      go (yes h) = rw (← over h, le-leb (x - g) ((M - 1) / 2) (omega arith), less-over x g h)
+      go (yes h) = rw (← over h, le-leb (x - g) ((M - 1) / 2) (omega arith)) (sym (less-over x g h))
       go (no n) =
           let h : x < g = omega arith in
           let e : M - suc (x + M - g) ≡ g - suc x = omega arith in
-          rw (← under h, lt-leb (x + M - g) ((M - 1) / 2) (omega arith), less-under (x + M - g) M (omega arith), less-under x g h) (ap negsuc e)
+          rw (← under h, lt-leb (x + M - g) ((M - 1) / 2) (omega arith)) (less-under (x + M - g) M (omega arith) ∙ ap negsuc e ∙ sym (less-under x g h))

@@ -4,7 +4,7 @@ use mathlib.Core.List.{List, [], _∷_, _++_, append-assoc, append-nil}
 use Prim.Native.Nat.{ℕ, suc, _+_, _-_, _≤_, _<_}
 use native.Mathlib.Numerals.{add-one}
 use native.Mathlib.Omega.{arith}
-use lib.ListN.{length, take, set, replicate}
+use lib.ListN.{take, set, replicate}
 use lib.Seq.{take-suc-set}
 use Rattle.numbers.specs.Lists.{Words}
 use Rattle.numbers.proofs.WordsLaws.{words-set, words-same}
@@ -17,7 +17,7 @@ use Rattle.tape.proofs.DrawLaws.{got, got-none}
 use Rattle.draws.specs.Draws.{done, bind, after, next, run}
 use Rattle.draws.specs.Plan.{drawAll}
 use Rattle.draws.proofs.DrawnLaws.{got-below}
-use Rattle.draws.proofs.RunLaws.{run-bind, run-draw, run-ended, run-done}
+use Rattle.draws.proofs.RunLaws.{run-bind, run-draw, run-ended}
 
 -- a draw and then others, after those that were made
 draw-after : (xs : List ℕ) (r : ℕ) (y : Ran (List ℕ)) → next (next y (λ rs c. ran (r ∷ rs) c)) (λ rs c. ran (xs ++ rs) c) ≡ next y (λ rs c. ran ((xs ++ (r ∷ [])) ++ rs) c)

@@ -1,13 +1,12 @@
 -- What a run of the samplers leaves is a mask: of one coefficient, and of each of a polynomial, at its place, from its own part of the tape.
 use mathlib.Core.Path.{_≡_, refl, sym, ap, subst, subst₂, _∙_}
-use mathlib.Core.List.{List, [], _∷_, _++_, append-assoc}
+use mathlib.Core.List.{List, _++_}
 use Prim.Native.Nat.{ℕ, zero, suc, _+_, _-_, _*_, _^_, _≤_, _<_}
 use native.Mathlib.Nat.{suc-mul, zero-add}
 use native.Mathlib.Omega.{arith}
 use lib.ListN.{length, take, drop}
-use lib.Seq.{take-at, drop-at, length-take-le, take-take, take-all}
+use lib.Seq.{length-take-le, take-all}
 use lib.IntN.{pos, _-ℤ_}
-use lib.Signed.{_≤ℤ_}
 use Rattle.numbers.specs.Modulo.{q, subMod}
 use Rattle.numbers.specs.Lists.{Words, xorAll}
 use Rattle.numbers.specs.Centred.{centred}

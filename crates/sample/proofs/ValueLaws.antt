@@ -1,25 +1,23 @@
 -- What sampling gives, over any n that leaves room and any set that has its laws: the plan, and the value by the words drawn first.
-use mathlib.Core.Path.{_≡_, refl, sym, ap, subst, _∙_}
+use mathlib.Core.Path.{_≡_, refl, subst, _∙_}
 use mathlib.Core.List.{List, _++_}
-use Prim.Native.Nat.{ℕ, _+_, _-_, _*_, _/_, _%_, _^_, _≤_, _<_}
-use native.Mathlib.Nat.{mod-eq-of-lt, mod-lt}
+use Prim.Native.Nat.{ℕ, _+_, _-_, _*_, _%_, _^_, _≤_, _<_}
+use native.Mathlib.Nat.{mod-eq-of-lt}
 use native.Mathlib.Omega.{arith}
 use lib.ListN.{length}
-use Rattle.numbers.specs.Modulo.{q, addMod, subMod}
-use Rattle.numbers.specs.Lists.{Words, sum, xorAll}
-use Rattle.numbers.specs.Bits.{alpha}
-use Rattle.numbers.proofs.Cong.{Cong}
-use Rattle.numbers.proofs.GroupLaws.{sums, xors, sub-only}
-use Rattle.numbers.proofs.FoldLaws.{fold-below, fold-sub}
+use Rattle.numbers.specs.Modulo.{q, subMod}
+use Rattle.numbers.specs.Lists.{Words, xorAll}
+use Rattle.numbers.proofs.GroupLaws.{xors}
+use Rattle.numbers.proofs.FoldLaws.{fold-below}
 use Rattle.params.specs.declared.Params.{Params}
 use Rattle.params.specs.Laws.{Laws}
 use Rattle.params.proofs.RoomLaws.{alpha-most, mask-most, mask-small}
 use Rattle.draws.specs.Draws.{Draws, bind, each}
 use Rattle.draws.proofs.Outcomes.{Gives}
 use Rattle.draws.proofs.PlanLaws.{gives-bind, gives-map, gives-each, gives-as, gives-all, fits-words}
-use Rattle.shares.specs.Sharing.{arithmetic, boolean, value}
+use Rattle.shares.specs.Sharing.{arithmetic}
 use Rattle.shares.specs.Refresh.{refresh, refreshPlan}
-use Rattle.shares.proofs.SharingLaws.{Shares, fold-value}
+use Rattle.shares.proofs.SharingLaws.{Shares}
 use Rattle.shares.proofs.MoveLaws.{taken-value}
 use Rattle.shares.proofs.RefreshLaws.{refresh-keeps}
 use Rattle.switching.specs.ToModulus.{toModulus, toModulusPlan}

@@ -2,8 +2,8 @@ use borrow.Author.Needs.{needs}
 use mathlib.Core.Path.{_≡_, sym, _∙_}
 use mathlib.Core.List.{[]}
 use lib.ListN.{length}
-use denote.Ref.{now}
 use borrow.Author.Tests.{not-true, not-false}
+use denote.Ref.{now}
 use Rattle.gate.specs.Checks.{firstFailing, checksOf, checks}
 use Rattle.gate.proofs.CheckLaws.{of-one, fails-as, fails-later, Counted, all-counted, inside-yes, below-fails, below-passes}
 use Rattle.gate.proofs.first_failing.Statement.{statement}

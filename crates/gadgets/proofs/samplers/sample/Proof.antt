@@ -1,22 +1,22 @@
 use borrow.Author.Needs.{needs}
-use Rattle.tape.specs.declared.Cursor.{Cursor}
 use mathlib.Core.Path.{_≡_, refl, sym, ap, ap₂, _∙_}
 use mathlib.Core.Bool.{true, false}
-use mathlib.Core.List.{List, []}
-use Prim.Native.Nat.{ℕ, _*_, _≤_}
+use mathlib.Core.List.{[]}
+use Prim.Native.Nat.{ℕ, _*_}
 use native.Mathlib.Nat.{one-mul}
 use native.Mathlib.Omega.{arith}
 use lib.ListN.{length}
 use denote.Ref.{now}
 use Rattle.params.specs.declared.Params.{Params}
-use Rattle.params.specs.Sets.{known, paramsOf}
+use Rattle.params.specs.Sets.{known}
 use Rattle.params.proofs.SetLaws.{set-known, set-params, set-laws-of, set-unknown}
+use Rattle.tape.specs.declared.Cursor.{Cursor}
 use Rattle.tape.specs.Tape.{start}
 use Rattle.draws.specs.Draws.{run}
+use Rattle.shares.specs.Arrays.{shared}
 use Rattle.gate.specs.Checks.{firstFailing, checksOf}
 use Rattle.gate.proofs.CheckLaws.{Counted, all-counted, fails-out}
 use Rattle.gate.proofs.GadgetLaws.{sampler-refused, sampler-ran}
-use Rattle.shares.specs.Arrays.{shared}
 use Rattle.sample.specs.Sampling.{coefficient}
 use Rattle.gadgets.specs.Sample.{sampler}
 use Rattle.gadgets.proofs.samplers.sample.Statement.{statement}

@@ -1,16 +1,11 @@
 use borrow.Author.Needs.{needs}
-use Rattle.sample.specs.declared.Written.{Written}
-use Rattle.sample.specs.Answers.{writtenStandsFor}
-use Rattle.gate.specs.Told.{refusal}
-use Rattle.gate.proofs.GadgetLaws.{told-ended, told-ran}
-use mathlib.Core.Path.{_≡_, refl, sym, ap, ap₂, _∙_}
-use mathlib.Core.Bool.{true, false}
+use mathlib.Core.Path.{_≡_, refl, sym, ap, _∙_}
+use mathlib.Core.Bool.{Bool, true, false}
 use mathlib.Core.List.{List, []}
 use Prim.Native.Nat.{ℕ, _*_, _≤_}
-use native.Mathlib.Nat.{one-mul}
 use native.Mathlib.Omega.{arith}
 use lib.ListN.{length, replicate}
-use lib.Dec.{eqb}
+use borrow.Author.Tests.{ne-eqb}
 use denote.Ref.{now}
 use Rattle.numbers.specs.Tests.{pick}
 use Rattle.params.specs.declared.Params.{Params}
@@ -18,10 +13,13 @@ use Rattle.params.specs.Sets.{known, paramsOf}
 use Rattle.params.proofs.SetLaws.{set-known, set-params, set-laws-of, set-unknown}
 use Rattle.tape.specs.Tape.{start}
 use Rattle.draws.specs.Draws.{run}
+use Rattle.gate.specs.Told.{refusal}
 use Rattle.gate.specs.Checks.{firstFailing, checksOf}
+use Rattle.gate.proofs.GadgetLaws.{told-ended, told-ran}
 use Rattle.gate.proofs.CheckLaws.{Counted, all-counted, fails-out}
 use Rattle.gate.proofs.GadgetLaws.{sampler-refused, sampler-ran}
-use borrow.Author.Tests.{ne-eqb}
+use Rattle.sample.specs.declared.Written.{Written}
+use Rattle.sample.specs.Answers.{writtenStandsFor}
 use Rattle.sample.specs.Sampling.{polynomial}
 use Rattle.gadgets.specs.Sample.{polynomialSampler}
 use Rattle.gadgets.proofs.samplers.sample_polynomial.Statement.{statement}
@@ -45,7 +43,7 @@ good c = all-counted _ _ _ _ _ (sym (passes c))
 -- a refusal by a check leaves the slice
 kept : (set : ℕ) (out : List ℕ) (m : ℕ) → m ≤ 3 → polynomialSampler set .leaves m out ≡ out
 unfolding polynomialSampler
-kept set out m h = rw (ne-eqb m 5 (λ z. omega arith))
+kept set out m h = ap (λ (b : Bool). pick b (replicate (length out) 0) out) (ne-eqb m 5 (λ z. omega arith))
 
 -- what the writer left stands for the run of the steps
 ran-so : (c : tie.After-polynomial) →

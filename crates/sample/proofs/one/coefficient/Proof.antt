@@ -1,18 +1,18 @@
 use borrow.Author.Needs.{needs}
-use Prim.Native.Nat.{ℕ, _^_}
-use Prim.Native.Nat.{ℕ, _^_}
-use Rattle.numbers.specs.Lists.{Words}
-use Rattle.shares.specs.Arrays.{Held}
-use mathlib.Core.Path.{_≡_, ap, _∙_}
+use mathlib.Core.Path.{ap, _∙_}
 use mathlib.Core.List.{List}
-use lib.ListN.{take}
+use Prim.Native.Nat.{ℕ, _^_}
+use Prim.Native.Nat.{ℕ, _^_}
 use native.Mathlib.Omega.{arith}
+use lib.ListN.{take}
 use lib.Pow.{pow-mono}
 use borrow.Author.Tests.{not-false}
 use denote.Ref.{now}
+use Rattle.numbers.specs.Lists.{Words}
 use Rattle.numbers.specs.Modulo.{q}
 use Rattle.params.proofs.RoomLaws.{alpha-most, q-room, mask-least, mask-most, mask-small}
 use Rattle.draws.specs.Draws.{run}
+use Rattle.shares.specs.Arrays.{Held}
 use Rattle.shares.specs.Sharing.{arithmetic}
 use Rattle.shares.specs.Refresh.{refresh}
 use Rattle.shares.proofs.ArraysLaws.{given-as, gave, stopped, cut-off}

@@ -1,7 +1,6 @@
 use borrow.Author.Needs.{needs}
 use mathlib.Core.Path.{_≡_, refl, ap, _∙_}
-use Prim.Native.Nat.{_-_, _^_, _<_}
-use native.Mathlib.Omega.{arith}
+use Prim.Native.Nat.{_-_, _^_}
 use lib.ListN.{replicate}
 use lib.Pow.{pow-pos, pow-mono}
 use denote.Ref.{now}
