@@ -21,6 +21,10 @@ pub record Answers (c : CallClaim) : Type 0 where
   pub bad-length : c .Count → ¬ (c .Room) → 2 ≡ checkNumber (c .call)
   pub bad-parameter : c .Count → c .Room → ¬ (c .InRange) → 3 ≡ checkNumber (c .call)
   pub bad-share : c .Count → c .Room → c .InRange → ¬ (c .Below) → 4 ≡ checkNumber (c .call)
+  pub most : checkNumber (c .call) ≤ 4
+  -- and a refusal leaves what is claimed
+  pub out : c .call .out ≡ c .out
+  pub short : c .call .short ≡ c .short
   pub passes : Valid c → checkNumber (c .call) ≡ 0
   pub valid : checkNumber (c .call) ≡ 0 → Valid c
   -- the program makes the claimed draws, and its outcome is as claimed
@@ -28,16 +32,20 @@ pub record Answers (c : CallClaim) : Type 0 where
   pub right : Valid c → (tape : List ℕ) {o : Outcome} {p : Cursor} → run (c .call .program) tape start ≡ ran o p → c .Right tape p o
   pub fields : (tape : List ℕ) (p : Cursor) (o : Outcome) → c .Right tape p o → length (o .opened) ≡ c .call .fields
 
--- a check of parameters, what it says of them, and what the output's words are then below
-pub record Range (inRange : Bool) (InRange : Type 0) (M : ℕ) : Type 0 where
+-- a check of parameters, and what it says of them
+pub record Tested (inRange : Bool) (InRange : Type 0) : Type 0 where
   pub in-range : inRange ≡ true → InRange
   pub range-in : InRange → inRange ≡ true
+
+-- and what the output's words are then below
+pub record Range (inRange : Bool) (InRange : Type 0) (M : ℕ) : Type 0 where
+  pub tested : Tested inRange InRange
   pub positive : InRange → 0 < M
   pub word : InRange → M ≤ 2 ^ 32
 
 -- a number from 1 to high
 pub number-range : (high k M : ℕ) → 0 < M → (k ≤ high → M ≤ 2 ^ 32) → Range (inside 1 high k) ((1 ≤ k) × (k ≤ high)) M
-number-range high k M h w = record { in-range = inside-out 1 high k; range-in = λ r. inside-yes 1 high k (r .0) (r .1); positive = λ r. h; word = λ r. w (r .1) }
+number-range high k M h w = record { tested = record { in-range = inside-out 1 high k; range-in = λ r. inside-yes 1 high k (r .0) (r .1) }; positive = λ r. h; word = λ r. w (r .1) }
 
 -- a width from 1 to 31
 pub width-range : (k : ℕ) → Range (inside 1 31 k) ((1 ≤ k) × (k ≤ 31)) (2 ^ k)
@@ -49,21 +57,18 @@ not-so true n = absurd (n refl)
 not-so false n = refl
 
 -- the checks that all gadgets make first
-module _ {inRange : Bool} {InRange : Type 0} {M : ℕ} (s : Range inRange InRange M) (n room words : ℕ) (more : List (ℕ × Bool)) where
+module _ {inRange : Bool} {InRange : Type 0} (s : Tested inRange InRange) (n room words : ℕ) (more : List (ℕ × Bool)) where
   abbrev number : ℕ
   number = firstFailing (checksOf n room words inRange more)
-
-  count : Counted n → inside 2 8 n ≡ true
-  count h = inside-yes 2 8 n (h .0) (h .1)
 
   pub first-count : ¬ (Counted n) → 1 ≡ number
   first-count h = fails-1 n room words inRange more (not-so _ (λ e. h (inside-out 2 8 n e)))
 
   pub first-length : Counted n → ¬ (room ≡ words) → 2 ≡ number
-  first-length h r = fails-2 n room words inRange more (count h) r
+  first-length h r = fails-2 n room words inRange more (h .0) (h .1) r
 
   pub first-parameter : Counted n → room ≡ words → ¬ InRange → 3 ≡ number
-  first-parameter h r i = fails-3 n room words inRange more (count h) r (not-so _ (λ e. i (s .in-range e)))
+  first-parameter h r i = fails-3 n room words inRange more (h .0) (h .1) r (not-so _ (λ e. i (s .in-range e)))
 
   pub first-later : Counted n → room ≡ words → InRange → firstFailing more ≡ number
-  first-later h r i = fails-later n room words inRange more (count h) r (s .range-in i)
+  first-later h r i = fails-later n room words inRange more (h .0) (h .1) r (s .range-in i)

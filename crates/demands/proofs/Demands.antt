@@ -1,10 +1,9 @@
 -- The demands follow from what a gadget shows of its steps.
-use Prim.Native.Nat.{ℕ}
 use Rattle.demands.specs.Claim.{Claim}
 use Rattle.demands.specs.SamplerClaim.{SamplerClaim}
 use Rattle.demands.specs.Demands.{Demands, SamplerDemands}
 use Rattle.demands.proofs.Steps.{Steps, on-shares}
-use Rattle.demands.proofs.SamplerSteps.{SamplerSteps, on-none}
+use Rattle.demands.proofs.SamplerSteps.{SamplerSteps, on-stated, no-share}
 use Rattle.demands.proofs.Refusals as Refusals
 use Rattle.demands.proofs.Values as Values
 use Rattle.demands.proofs.Settings as Settings
@@ -17,5 +16,10 @@ demands s =
       settings = Settings.settings s;
     }
 
-pub sampler-demands : {c : SamplerClaim} {M : ℕ} → SamplerSteps c M → SamplerDemands c
-sampler-demands s = record { refusals = λ n tape out. Refusals.refusals (on-none s n out) tape; values = λ n tape out. Values.values (on-none s n out) tape }
+pub sampler-demands : {c : SamplerClaim} → SamplerSteps c → SamplerDemands c
+sampler-demands {c} s =
+    record {
+      refusals = λ n tape out. Refusals.refusals (on-stated s n out) tape;
+      values = λ n tape out. Values.values (on-stated s n out) tape;
+      no-4 = no-share (c .sampler);
+    }

@@ -23,8 +23,7 @@ refresh-steps M =
     record {
       range =
           record {
-            in-range = inside-out 2 4294967295 M;
-            range-in = λ r. inside-yes 2 4294967295 M (r .0) (r .1);
+            tested = record { in-range = inside-out 2 4294967295 M; range-in = λ r. inside-yes 2 4294967295 M (r .0) (r .1) };
             positive = λ r. omega (arith, r .0);
             word = λ r. omega (arith, r .1);
           };

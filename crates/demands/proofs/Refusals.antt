@@ -10,12 +10,16 @@ use Rattle.gate.proofs.GadgetLaws.{by-check}
 use Rattle.demands.specs.Call.{CallClaim}
 use Rattle.demands.specs.Refusals.{Refused, Refusals}
 use Rattle.demands.proofs.Answers.{Answers}
-use Rattle.demands.proofs.Runs.{tells-success, tells-short, Ending, succeeds, refuses, ending}
+use Rattle.demands.proofs.Runs.{tells-success, tells-short, Ending, succeeds, stops, refuses, ending}
 
 module _ {c : CallClaim} (s : Answers c) (tape : List ℕ) where
-  -- a check that fails answers
-  answers : (k : ℕ) → k ≡ checkNumber (c .call) → ¬ (k ≡ 0) → Refused c tape k
-  answers k e n = sym (by-check (c .call) tape e n refl)
+  -- a check that fails answers, with the slice unchanged
+  answers : (k : ℕ) → k ≡ checkNumber (c .call) → ¬ (k ≡ 0) → Refused c tape k (c .out)
+  answers k e n = sym (by-check (c .call) tape e n refl) ∙ ap (refusal (c .call .fields) k) (s .out)
+
+  -- and so does the end of the tape
+  stopped : told (c .call) tape ≡ refusal (c .call .fields) 5 (c .call .short) → Refused c tape 5 (c .short)
+  stopped e = e ∙ ap (refusal (c .call .fields) 5) (s .short)
 
   pub refusals : Refusals c tape
   unfolding refusal
@@ -25,11 +29,20 @@ module _ {c : CallClaim} (s : Answers c) (tape : List ℕ) where
         bad-length = λ h n. answers 2 (s .bad-length h n) (λ z. omega arith);
         bad-parameter = λ h r n. answers 3 (s .bad-parameter h r n) (λ z. omega arith);
         bad-share = λ h r i n. answers 4 (s .bad-share h r i n) (λ z. omega arith);
-        short-tape = λ v e. tells-short (c .call) tape (s .passes v) (planned-ended (s .planned v) tape start e);
+        short-tape = λ v e. stopped (tells-short (c .call) tape (s .passes v) (planned-ended (s .planned v) tape start e));
         no-other = λ v rs p e. ap (λ (t : Told). t .number) (tells-success (c .call) tape (s .passes v) (planned-ran (s .planned v) tape start e));
-        or-succeeds = λ n. go n (ending (c .call) tape);
+        or-short = λ e. short e (ending (c .call) tape);
+        or-succeeds = λ n m. kept n m (ending (c .call) tape);
       }
     where
-      go : ¬ (told (c .call) tape .number ≡ 0) → Ending (c .call) tape → Refused c tape (told (c .call) tape .number)
-      go n (succeeds x) = absurd (n (ap (λ (t : Told). t .number) (x .told-so)))
-      go n (refuses k f m) = f ∙ ap (λ (j : ℕ). refusal (c .call .fields) j (c .call .leaves j)) (sym (ap (λ (t : Told). t .number) f))
+      short : told (c .call) tape .number ≡ 5 → Ending (c .call) tape → Refused c tape 5 (c .short)
+      short e (succeeds x) = absurd (let z : 0 ≡ 5 = sym (ap (λ (t : Told). t .number) (x .told-so)) ∙ e in omega arith)
+      short e (stops f) = stopped f
+      short e (refuses k f n h) = absurd (let z : k ≡ 5 = sym (ap (λ (t : Told). t .number) f) ∙ e in omega (arith, s .most))
+
+      kept : ¬ (told (c .call) tape .number ≡ 0) → ¬ (told (c .call) tape .number ≡ 5) → Ending (c .call) tape →
+          Refused c tape (told (c .call) tape .number) (c .out)
+      kept n m (succeeds x) = absurd (n (ap (λ (t : Told). t .number) (x .told-so)))
+      kept n m (stops f) = absurd (m (ap (λ (t : Told). t .number) f))
+      kept n m (refuses k f h e) =
+          f ∙ ap (refusal (c .call .fields) k) (s .out) ∙ ap (λ (j : ℕ). refusal (c .call .fields) j (c .out)) (sym (ap (λ (t : Told). t .number) f))

@@ -17,11 +17,11 @@ success o p = record { number = 0; opened = o .opened; used = p .at; out = o .sh
 module _ (c : Call) (tape : List ℕ) where
   pub tells-success : {o : Outcome} {p : Cursor} → checkNumber c ≡ 0 → run (c .program) tape start ≡ ran o p → told c tape ≡ success o p
   unfolding ranTold
-  tells-success e f = tells-passed c tape e ∙ ap (λ x. ranTold (c .fields) x (c .leaves 5)) f
+  tells-success e f = tells-passed c tape e ∙ ap (λ x. ranTold (c .fields) x (c .short)) f
 
-  pub tells-short : checkNumber c ≡ 0 → run (c .program) tape start ≡ ended → told c tape ≡ refusal (c .fields) 5 (c .leaves 5)
+  pub tells-short : checkNumber c ≡ 0 → run (c .program) tape start ≡ ended → told c tape ≡ refusal (c .fields) 5 (c .short)
   unfolding ranTold
-  tells-short e f = tells-passed c tape e ∙ ap (λ x. ranTold (c .fields) x (c .leaves 5)) f
+  tells-short e f = tells-passed c tape e ∙ ap (λ x. ranTold (c .fields) x (c .short)) f
 
   -- a call that succeeds: no check failed, and the run came to its end
   pub record Succeeded : Type 0 where
@@ -31,21 +31,22 @@ module _ (c : Call) (tape : List ℕ) where
     pub ran-to : run (c .program) tape start ≡ ran outcome place
     pub told-so : told c tape ≡ success outcome place
 
-  -- or one that is refused
+  -- or one that met the tape's end, or that a check refused
   pub data Ending : Type 0 where
     succeeds : Succeeded → Ending
-    refuses : (k : ℕ) → told c tape ≡ refusal (c .fields) k (c .leaves k) → ¬ (k ≡ 0) → Ending
+    stops : told c tape ≡ refusal (c .fields) 5 (c .short) → Ending
+    refuses : (k : ℕ) → told c tape ≡ refusal (c .fields) k (c .out) → ¬ (k ≡ 0) → k ≡ checkNumber c → Ending
 
   pub ending : Ending
   ending = go (ℕ-discrete (checkNumber c) 0)
     where
       ran-or-not : (x : Ran Outcome) → checkNumber c ≡ 0 → run (c .program) tape start ≡ x → Ending
-      ran-or-not ended e f = refuses 5 (tells-short e f) (λ z. omega arith)
+      ran-or-not ended e f = stops (tells-short e f)
       ran-or-not (ran o p) e f = succeeds (record { passes = e; outcome = o; place = p; ran-to = f; told-so = tells-success e f })
 
       go : Dec (checkNumber c ≡ 0) → Ending
       go (yes e) = ran-or-not (run (c .program) tape start) e refl
-      go (no n) = refuses (checkNumber c) (tells-refused c tape n) n
+      go (no n) = refuses (checkNumber c) (tells-refused c tape n) n refl
 
   pub succeeded : told c tape .number ≡ 0 → Succeeded
   unfolding refusal
@@ -53,4 +54,5 @@ module _ (c : Call) (tape : List ℕ) where
     where
       go : Ending → Succeeded
       go (succeeds x) = x
-      go (refuses k f n) = absurd (n (sym (ap (λ (t : Told). t .number) f) ∙ e))
+      go (stops f) = absurd (let z : 5 ≡ 0 = sym (ap (λ (t : Told). t .number) f) ∙ e in omega arith)
+      go (refuses k f n h) = absurd (n (sym (ap (λ (t : Told). t .number) f) ∙ e))

@@ -1,10 +1,9 @@
 -- Both samplers meet demands 1 and 2, their answers are unique, and how many draws they make.
-use mathlib.Core.Path.{_≡_, ap₂, _∙_}
+use mathlib.Core.Path.{_≡_, refl, ap₂, _∙_}
 use mathlib.Core.List.{List, [], _++_}
 use Prim.Native.Nat.{ℕ, zero, suc, _+_, _-_, _*_, _^_, _<_}
 use native.Mathlib.Omega.{arith}
 use lib.ListN.{length, length-append, length-replicate}
-use Rattle.numbers.specs.Modulo.{q}
 use Rattle.numbers.specs.Bits.{alpha}
 use Rattle.numbers.specs.Lists.{over}
 use Rattle.params.specs.Sets.{Known, known, paramsOf}
@@ -21,31 +20,33 @@ use Rattle.demands.specs.Convert.{toModQClaim}
 use Rattle.demands.specs.Demands.{SamplerDemands}
 use Rattle.demands.specs.Unique.{Unique}
 use Rattle.demands.specs.Sample.{samplerClaim, polynomialClaim}
-use Rattle.demands.proofs.Answers.{Range}
+use Rattle.demands.proofs.Answers.{Tested}
 use Rattle.demands.proofs.SamplerSteps.{SamplerSteps}
 use Rattle.demands.proofs.Demands.{sampler-demands}
 use Rattle.demands.proofs.Convert.{to-mod-q-call-draws}
 use Rattle.demands.proofs.Unique.{unique-told}
 
-set-range : (set : ℕ) → Range (known set) (Known set) q
-set-range set = record { in-range = known-so set; range-in = known-yes; positive = λ k. omega arith; word = λ k. omega arith }
+set-range : (set : ℕ) → Tested (known set) (Known set)
+set-range set = record { in-range = known-so set; range-in = known-yes }
 
-sampler-steps : (set : ℕ) → SamplerSteps (samplerClaim set) q
+sampler-steps : (set : ℕ) → SamplerSteps (samplerClaim set)
 unfolding sampler
 sampler-steps set =
     record {
       range = set-range set;
+      short = λ out. refl;
       planned = λ k n least most out e. coefficient-gives (set-laws k) n (omega arith) most .plan;
-      leaves = λ k n least most tape out e r. coefficient-masks (set-laws k) n (omega arith) most tape r;
+      fills = λ k n least most tape out e r. coefficient-masks (set-laws k) n (omega arith) most tape r;
     }
 
-polynomial-steps : (set : ℕ) → SamplerSteps (polynomialClaim set) q
+polynomial-steps : (set : ℕ) → SamplerSteps (polynomialClaim set)
 unfolding polynomialSampler
 polynomial-steps set =
     record {
       range = set-range set;
+      short = λ out. refl;
       planned = λ k n least most out e. polynomial-gives (set-laws k) n (omega arith) most out e .plan;
-      leaves = λ k n least most tape out e r. polynomial-masks (set-laws k) n (omega arith) most tape out e r;
+      fills = λ k n least most tape out e r. polynomial-masks (set-laws k) n (omega arith) most tape out e r;
     }
 
 pub sample-demands : (set : ℕ) → SamplerDemands (samplerClaim set)

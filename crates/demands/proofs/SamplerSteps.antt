@@ -1,7 +1,8 @@
 -- What each sampler has to show of its steps; demands 1 and 2 follow from this alone.
-use mathlib.Core.Path.{_≡_, refl, sym, ap, subst₂}
+use mathlib.Core.Path.{_≡_, refl, sym, ap, subst₂, _∙_}
 use mathlib.Core.List.{List, []}
 use Prim.Native.Nat.{ℕ, _*_, _≤_}
+use native.Mathlib.Omega.{arith}
 use lib.ListN.{length}
 use Rattle.tape.specs.declared.Cursor.{Cursor}
 use Rattle.tape.specs.Tape.{ran, start}
@@ -10,40 +11,60 @@ use Rattle.draws.proofs.Outcomes.{Plan}
 use Rattle.draws.proofs.PlanLaws.{plan-map}
 use Rattle.draws.proofs.RunLaws.{bind-parts}
 use Rattle.gate.specs.Checks.{firstFailing}
-use Rattle.gate.specs.Told.{Outcome, checkNumber, silent}
+use Rattle.gate.specs.Told.{Told, refusal, Outcome, silent, checkNumber, told}
 use Rattle.gate.specs.Gadget.{silentSteps}
-use Rattle.gate.proofs.CheckLaws.{all-counted}
-use Rattle.demands.specs.SamplerClaim.{SamplerClaim, onNone}
-use Rattle.demands.proofs.Answers.{Answers, Range, first-count, first-length, first-parameter, first-later}
+use Rattle.gate.specs.Sampler.{Sampler, samplerCall, samples}
+use Rattle.gate.proofs.CheckLaws.{all-checked, number-most}
+use Rattle.demands.specs.SamplerClaim.{SamplerClaim, onStated}
+use Rattle.demands.proofs.Runs.{Ending, succeeds, stops, refuses, ending}
+use Rattle.demands.proofs.Answers.{Answers, Tested, first-count, first-length, first-parameter, first-later}
 
-pub record SamplerSteps (c : SamplerClaim) (M : ℕ) : Type 0 where
+pub record SamplerSteps (c : SamplerClaim) : Type 0 where
   -- the check of the parameters says what is claimed
-  pub range : Range (c .sampler .inRange) (c .InRange) M
-  -- the steps make the claimed draws, and leave in the output slice what is claimed
+  pub range : Tested (c .sampler .inRange) (c .InRange)
+  -- and so does what a short tape leaves
+  pub short : (out : List ℕ) → c .sampler .short out ≡ c .short out
+  -- the steps make the claimed draws, and fill the output slice with what is claimed
   pub planned : c .InRange → (n : ℕ) → 2 ≤ n → n ≤ 8 → (out : List ℕ) → length out ≡ c .sampler .coefficients * n → Plan (c .sampler .steps n out) (c .draws n)
-  pub leaves : c .InRange → (n : ℕ) → 2 ≤ n → n ≤ 8 → (tape out : List ℕ) → length out ≡ c .sampler .coefficients * n → {after : List ℕ} {p : Cursor} →
-      run (c .sampler .steps n out) tape start ≡ ran after p → c .Leaves n tape p after
+  pub fills : c .InRange → (n : ℕ) → 2 ≤ n → n ≤ 8 → (tape out : List ℕ) → length out ≡ c .sampler .coefficients * n → {after : List ℕ} {p : Cursor} →
+      run (c .sampler .steps n out) tape start ≡ ran after p → c .Fills n tape p after
 
 -- so a call is as claimed
-pub on-none : {c : SamplerClaim} {M : ℕ} → SamplerSteps c M → (n : ℕ) (out : List ℕ) → Answers (onNone c n out)
+pub on-stated : {c : SamplerClaim} → SamplerSteps c → (n : ℕ) (out : List ℕ) → Answers (onStated c n out)
 unfolding checkNumber silentSteps firstFailing run
-on-none {c} s n out =
+on-stated {c} s n out =
     let words : ℕ = c .sampler .coefficients * n in
     record {
       bad-count = first-count (s .range) n (length out) words [];
       bad-length = first-length (s .range) n (length out) words [];
       bad-parameter = first-parameter (s .range) n (length out) words [];
       bad-share = λ h r i b. absurd (b tt);
+      most = number-most n (length out) words (c .sampler .inRange) [] 4 (omega arith) (omega arith);
+      out = refl;
+      short = s .short out;
       passes = λ v. sym (first-later (s .range) n (length out) words [] (v .count) (v .room) (v .range));
       valid = λ e.
-          let p = all-counted n (length out) words (c .sampler .inRange) [] e in
+          let p = all-checked n (length out) words (c .sampler .inRange) [] e in
           record { count = (p .least, p .most); room = p .fits; range = s .range .in-range (p .range); below = tt };
       planned = λ v. plan-map silent (s .planned (v .range) n (v .count .0) (v .count .1) out (v .room));
       right = λ v tape {o} {p} e.
           let (xs, t, x, y) = bind-parts (c .sampler .steps n out) (λ ys. done (silent ys)) tape start e in
           let f : silent xs ≡ o = cc in
           let g : t ≡ p = cc in
-          subst₂ (λ (r : Outcome) (u : Cursor). c .Leaves n tape u (r .shares) × (r .opened ≡ [])) f g
-          (s .leaves (v .range) n (v .count .0) (v .count .1) tape out (v .room) x, refl);
+          subst₂ (λ (r : Outcome) (u : Cursor). c .Fills n tape u (r .shares) × (r .opened ≡ [])) f g
+          (s .fills (v .range) n (v .count .0) (v .count .1) tape out (v .room) x, refl);
       fields = λ tape p o r. ap length (r .1);
     }
+
+-- the first three checks have no other number
+pub no-share : (g : Sampler) (n : ℕ) (tape out : List ℕ) → ¬ (samples g n tape out .number ≡ 4)
+unfolding samples checkNumber refusal firstFailing
+no-share g n tape out e = go (ending (samplerCall g n out) tape)
+  where
+    number : {t : Told} → told (samplerCall g n out) tape ≡ t → t .number ≡ 4
+    number f = sym (ap (λ (t : Told). t .number) f) ∙ e
+
+    go : Ending (samplerCall g n out) tape → ⊥
+    go (succeeds x) = let z = number (x .told-so) in omega arith
+    go (stops f) = let z = number f in omega arith
+    go (refuses k f m h) = let z = number f in omega (arith, h, number-most n (length out) (g .coefficients * n) (g .inRange) [] 3 (omega arith) (omega arith))

@@ -33,8 +33,7 @@ shift-steps M t =
     record {
       range =
           record {
-            in-range = shift-range-out M t;
-            range-in = shift-range-in M t;
+            tested = record { in-range = shift-range-out M t; range-in = shift-range-in M t };
             positive = λ r. omega (arith, r .3);
             word = λ r. omega (arith, r .0, div-le-self M (2 ^ t));
           };

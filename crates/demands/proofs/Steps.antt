@@ -15,7 +15,7 @@ use Rattle.shares.proofs.RefreshLaws.{refresh-keeps}
 use Rattle.gate.specs.Checks.{allBelow, checks}
 use Rattle.gate.specs.Told.{checkNumber}
 use Rattle.gate.specs.Gadget.{closed}
-use Rattle.gate.proofs.CheckLaws.{below-words, words-below, below-fails, below-passes, all-passed}
+use Rattle.gate.proofs.CheckLaws.{number-most, below-most, below-words, words-below, below-fails, below-passes, all-passed}
 use Rattle.demands.specs.Call.{Valid}
 use Rattle.demands.specs.Claim.{Claim, Claimed, plan, onShares}
 use Rattle.demands.proofs.Answers.{Answers, Range, not-so, first-count, first-length, first-parameter, first-later}
@@ -52,14 +52,17 @@ on-shares {c} s shares out =
     let gives : Valid (onShares c shares out) → Gives (Claimed c n shares) (closed (c .gadget .output) (c .gadget .steps shares)) (plan c n) =
     λ v. closed-give s (v .range) n (v .count .0) (v .count .1) shares (v .below) in
     record {
-      bad-count = first-count (s .range) n (length out) n more;
-      bad-length = first-length (s .range) n (length out) n more;
-      bad-parameter = first-parameter (s .range) n (length out) n more;
-      bad-share = λ h r i b. below-fails M shares (not-so _ (λ e. b (below-words M shares e))) ∙ first-later (s .range) n (length out) n more h r i;
-      passes = λ v. sym (below-passes M shares (words-below (v .below)) ∙ first-later (s .range) n (length out) n more (v .count) (v .room) (v .range));
+      bad-count = first-count (s .range .tested) n (length out) n more;
+      bad-length = first-length (s .range .tested) n (length out) n more;
+      bad-parameter = first-parameter (s .range .tested) n (length out) n more;
+      bad-share = λ h r i b. below-fails M shares (not-so _ (λ e. b (below-words M shares e))) ∙ first-later (s .range .tested) n (length out) n more h r i;
+      most = number-most n (length out) n (c .gadget .inRange) more 4 (omega arith) (below-most M shares);
+      out = refl;
+      short = refl;
+      passes = λ v. sym (below-passes M shares (words-below (v .below)) ∙ first-later (s .range .tested) n (length out) n more (v .count) (v .room) (v .range));
       valid = λ e.
           let p = all-passed shares (length out) (c .gadget .inRange) M e in
-          record { count = (p .least, p .most); room = p .fits; range = s .range .in-range (p .range); below = p .below };
+          record { count = (p .first .least, p .first .most); room = p .first .fits; range = s .range .tested .in-range (p .first .range); below = p .below };
       planned = λ v. gives v .plan;
       right = λ v tape e. always-run (gives v .always) tape start e;
       fields = λ tape p o r. ap length (r .opened) ∙ s .opens-fields (value (c .gadget .input) shares);

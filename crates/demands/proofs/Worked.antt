@@ -29,4 +29,4 @@ use Rattle.demands.specs.Worked.{Worked}
 
 pub worked : Worked
 unfolding leadingZeros addMod subMod negMod xor bitsOf change along over lowBits drawFrom drawAt after next run bind turns each move turn refresh negated join joinTurn sharedParity less moveParity evened halves halving shift withBit bitsFrom toBoolean psi psis zOf added rule toArithmetic floors raised raisedShift carries without toModulus powerFrom alpha inside allBelow firstFailing checksOf checks refusal ranTold silentSteps closed checkNumber told tells shiftRange shiftGadget toBooleanGadget toArithmeticGadget toModQGadget refreshGadget booleanGadget samples setOf known paramsOf drawAll lowered coefficient filled row polynomial sampler polynomialSampler
-worked = record { refreshed = refl; refreshed-boolean = refl; shifted = refl; made-boolean = refl; made-arithmetic = refl; made-mod-q = refl; short = refl; sampled = refl; unknown = refl; wiped = refl; kept = refl }
+worked = record { refreshed = refl; refreshed-boolean = refl; shifted = refl; made-boolean = refl; made-arithmetic = refl; made-mod-q = refl; short = refl; sampled = refl; unknown = refl; filled = refl; wiped = refl; kept = refl }

@@ -6,6 +6,9 @@ use Rattle.gate.specs.Told.{Outcome, Call}
 
 pub record CallClaim : Type 1 where
   pub call : Call
+  -- the output slice that it is lent, and what a short tape leaves in it
+  pub out : List ℕ
+  pub short : List ℕ
   -- what the checks 1 to 4 ask: of the share count, of the output slice's length, of the parameters and of the input shares
   pub Count : Type 0
   pub Room : Type 0

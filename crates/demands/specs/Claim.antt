@@ -41,6 +41,8 @@ abbrev pub onShares : Claim → (shares out : List ℕ) → CallClaim
 onShares c shares out =
     record {
       call = call (c .gadget) shares out;
+      out = out;
+      short = out;
       Count = Counted (length shares);
       Room = length out ≡ length shares;
       InRange = c .InRange;

@@ -1,5 +1,6 @@
 -- What is claimed of both samplers (document 01, "Sampling" and "What a caller gets back").
 use Prim.Native.Nat.{ℕ}
+use lib.ListN.{length, replicate}
 use Rattle.params.specs.Sets.{Known, paramsOf}
 use Rattle.tape.specs.Tape.{start}
 use Rattle.sample.specs.Sampling.{coefficientPlan, polynomialPlan}
@@ -14,15 +15,17 @@ samplerClaim set =
       sampler = sampler set;
       InRange = Known set;
       draws = coefficientPlan (paramsOf set);
-      Leaves = λ n tape p out. Mask (paramsOf set) n tape start p out;
+      Fills = λ n tape p out. Mask (paramsOf set) n tape start p out;
+      short = λ out. out;
     }
 
--- the 256 of a polynomial
+-- the 256 of a polynomial; a short tape sets all words of its slice to 0
 abbrev pub polynomialClaim : ℕ → SamplerClaim
 polynomialClaim set =
     record {
       sampler = polynomialSampler set;
       InRange = Known set;
       draws = polynomialPlan (paramsOf set);
-      Leaves = λ n tape p out. Masks (paramsOf set) n tape p out;
+      Fills = λ n tape p out. Masks (paramsOf set) n tape p out;
+      short = λ out. replicate (length out) 0;
     }

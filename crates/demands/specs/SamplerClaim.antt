@@ -13,18 +13,22 @@ pub record SamplerClaim : Type 1 where
   pub InRange : Type 0
   -- what it draws below, in turn, for n shares
   pub draws : ℕ → List ℕ
-  -- what it leaves in the output slice, for n shares, from the words of the tape up to a place
-  pub Leaves : ℕ → (tape : List ℕ) → Cursor → List ℕ → Type 0
+  -- what it fills the output slice with, for n shares, from the words of the tape up to a place
+  pub Fills : ℕ → (tape : List ℕ) → Cursor → List ℕ → Type 0
+  -- what a short tape makes of the output slice
+  pub short : List ℕ → List ℕ
 
--- what is claimed of a call: there are no input shares, so number 4 cannot arise, and nothing is opened
-abbrev pub onNone : SamplerClaim → ℕ → (out : List ℕ) → CallClaim
-onNone c n out =
+-- what is claimed of a call with n stated: there are no input shares to check, and nothing is opened
+abbrev pub onStated : SamplerClaim → ℕ → (out : List ℕ) → CallClaim
+onStated c n out =
     record {
       call = samplerCall (c .sampler) n out;
+      out = out;
+      short = c .short out;
       Count = Counted n;
       Room = length out ≡ c .sampler .coefficients * n;
       InRange = c .InRange;
       Below = Unit {0};
       plan = c .draws n;
-      Right = λ tape p o. c .Leaves n tape p (o .shares) × (o .opened ≡ []);
+      Right = λ tape p o. c .Fills n tape p (o .shares) × (o .opened ≡ []);
     }

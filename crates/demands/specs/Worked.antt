@@ -1,8 +1,10 @@
 -- Calls worked by hand beyond document 01's table, where no case has three shares: they show the order of the shares, into which one a parity
--- moves, where the results of U and Z go, and that the demands speak of something.
+-- moves, where the results of U and Z go, where each coefficient of a polynomial stands and what a refusal leaves, and that the demands speak of
+-- something.
 use mathlib.Core.Path.{_≡_}
-use mathlib.Core.List.{[], _∷_}
+use mathlib.Core.List.{[], _∷_, _++_}
 use lib.ListN.{replicate}
+use Rattle.numbers.specs.Lists.{over}
 use Rattle.gate.specs.Gadget.{tells}
 use Rattle.gate.specs.Sampler.{samples}
 use Rattle.gadgets.specs.Refresh.{refreshGadget, booleanGadget}
@@ -39,6 +41,9 @@ pub record Worked : Type 0 where
       ≡ record { number = 0; opened = []; used = 21; out = 3678250 ∷ 16396 ∷ 4161488 ∷ [] }
   -- there is no set 66
   pub unknown : samples (sampler 66) 2 (0 ∷ []) (7 ∷ 7 ∷ []) ≡ record { number = 3; opened = []; used = 0; out = 7 ∷ 7 ∷ [] }
+  -- six words for each of 256 coefficients. The first word of the second coefficient is 1, so its value is greater by 1 than that of the others
+  pub filled : samples (polynomialSampler 44) 2 (replicate 6 0 ++ (1 ∷ replicate 1529 0)) (replicate 512 7)
+      ≡ record { number = 0; opened = []; used = 1536; out = 8249346 ∷ 0 ∷ 8249346 ∷ 1 ∷ over (λ c xs. 8249346 ∷ 0 ∷ xs) 254 [] }
   -- a polynomial's slice is wiped where the tape ends, and kept where it has the wrong length
   pub wiped : samples (polynomialSampler 87) 2 (0 ∷ 0 ∷ 0 ∷ 0 ∷ 0 ∷ 0 ∷ 0 ∷ []) (replicate 512 7) ≡ record { number = 5; opened = []; used = 0; out = replicate 512 0 }
   pub kept : samples (polynomialSampler 87) 2 (0 ∷ []) (replicate 511 7) ≡ record { number = 2; opened = []; used = 0; out = replicate 511 7 }

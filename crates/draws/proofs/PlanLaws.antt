@@ -55,21 +55,21 @@ pub gives-draw : {A : Type 0} {P : A → Type 0} {M : ℕ} {k : ℕ → Draws A}
 gives-draw h = record { plan = draws (λ r l. h r l .plan); always = whatever (λ r l. h r l .always) }
 
 -- turns that each make the draws of one plan
-pub gives-each : {A : Type 0} (P : ℕ → A → Type 0) (f : ℕ → A → Draws A) (ms : List ℕ) (top : ℕ) →
+pub gives-rounds : {A : Type 0} (P : ℕ → A → Type 0) (f : ℕ → A → Draws A) (ms : List ℕ) (top : ℕ) →
     ((i : ℕ) (a : A) → i < top → P i a → Gives (P (suc i)) (f i a) ms) → (i k : ℕ) (a : A) → i + k ≤ top → P i a →
     Gives (P (i + k)) (turns f i k a) (over (λ c ns. ms ++ ns) k [])
 unfolding turns over
-gives-each P f ms top g i zero a h p = let e : i + 0 ≡ i = omega arith in rw e (gives-done p)
-gives-each P f ms top g i (suc k) a h p =
+gives-rounds P f ms top g i zero a h p = let e : i + 0 ≡ i = omega arith in rw e (gives-done p)
+gives-rounds P f ms top g i (suc k) a h p =
     let e : i + suc k ≡ suc i + k = omega arith in
-    rw e (gives-bind (λ b. turns f (suc i) k b) (over (λ c ns. ms ++ ns) k []) (g i a (omega arith) p) (λ b q. gives-each P f ms top g (suc i) k b (omega arith) q))
+    rw e (gives-bind (λ b. turns f (suc i) k b) (over (λ c ns. ms ++ ns) k []) (g i a (omega arith) p) (λ b q. gives-rounds P f ms top g (suc i) k b (omega arith) q))
 
 -- turns that each make d draws below M
 pub gives-turns : {A : Type 0} (P : ℕ → A → Type 0) (f : ℕ → A → Draws A) (d M top : ℕ) →
     ((i : ℕ) (a : A) → i < top → P i a → Gives (P (suc i)) (f i a) (replicate d M)) → (i k : ℕ) (a : A) → i + k ≤ top → P i a →
     Gives (P (i + k)) (turns f i k a) (replicate (k * d) M)
 unfolding over
-gives-turns P f d M top g i k a h p = subst (Gives (P (i + k)) (turns f i k a)) (all k) (gives-each P f (replicate d M) top g i k a h p)
+gives-turns P f d M top g i k a h p = subst (Gives (P (i + k)) (turns f i k a)) (all k) (gives-rounds P f (replicate d M) top g i k a h p)
   where
     all : (k : ℕ) → over (λ c ns. replicate d M ++ ns) k [] ≡ replicate (k * d) M
     all zero = let z : 0 * d ≡ 0 = omega arith in rw z

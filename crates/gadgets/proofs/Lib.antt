@@ -1,1 +1,2 @@
 pub mod RangeLaws
+pub mod SamplerLaws

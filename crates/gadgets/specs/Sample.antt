@@ -1,15 +1,13 @@
 -- Both samplers as gadgets (document 01, "Steps"; the ranges, "What a caller gets back").
 use Prim.Native.Nat.{ℕ}
 use lib.ListN.{length, replicate}
-use lib.Dec.{eqb}
-use Rattle.numbers.specs.Tests.{pick}
 use Rattle.params.specs.Sets.{known, paramsOf}
 use Rattle.gate.specs.Sampler.{Sampler}
 use Rattle.sample.specs.Sampling.{coefficient, polynomial}
 
 -- one coefficient, of set 44, 65 or 87
 unfoldable pub sampler : ℕ → Sampler
-sampler set = record { inRange = known set; coefficients = 1; steps = λ n out. coefficient (paramsOf set) n; leaves = λ number out. out }
+sampler set = record { inRange = known set; coefficients = 1; steps = λ n out. coefficient (paramsOf set) n; short = λ out. out }
 
 -- a polynomial; number 5 sets all words of its slice to 0
 unfoldable pub polynomialSampler : ℕ → Sampler
@@ -18,5 +16,5 @@ polynomialSampler set =
       inRange = known set;
       coefficients = 256;
       steps = λ n out. polynomial (paramsOf set) n out;
-      leaves = λ number out. pick (eqb number 5) (replicate (length out) 0) out;
+      short = λ out. replicate (length out) 0;
     }

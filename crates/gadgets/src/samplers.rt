@@ -2,7 +2,7 @@
 use gate::Answer;
 use gate::clear;
 use gate::finish;
-use gate::first_stated;
+use gate::first_of_three;
 use gate::refused;
 use params::Choice;
 use params::Params;
@@ -11,40 +11,66 @@ use sample::coefficient;
 use sample::polynomial;
 use tape::Cursor;
 ghost use mathlib.Core.Path.{_≡_};
-ghost use Rattle.gate.specs.Told.{standsFor};
+ghost use Prim.Native.Nat.{_*_, _≤_};
+ghost use lib.ListN.{length, replicate};
+ghost use Rattle.params.specs.Laws.{Laws};
+ghost use Rattle.tape.specs.Tape.{start};
+ghost use Rattle.draws.specs.Draws.{run};
+ghost use Rattle.sample.specs.Sampling.{polynomial};
+ghost use Rattle.gate.specs.Told.{silentRan, ranTold, standsFor};
 ghost use Rattle.gate.specs.Sampler.{samples};
 ghost use Rattle.gadgets.specs.Sample.{sampler, polynomialSampler};
+ghost use Rattle.gadgets.specs.Answers.{Admits};
+
+// The set that is sampled for, or the number of the first check that fails.
+enum Admitted {
+    Set(Params),
+    Refused(u32),
+}
+
+fn admit(n: usize, coefficients: usize, room: usize, set: u32) -> Admitted
+    requires { ⌜ coefficients ≤ 256 ⌝ }
+    ensures { λ r. ⌜ Admits r n coefficients room set ⌝ }
+{
+    let Choice::Set(p) = Params::of_set(set) else {
+        return Admitted::Refused(first_of_three(n, coefficients, room, false));
+    };
+    let number = first_of_three(n, coefficients, room, true);
+    if number != 0 {
+        return Admitted::Refused(number);
+    }
+    Admitted::Set(p)
+}
 
 pub fn sample(tape: &[u32], n: usize, set: u32, out: &mut [u32]) -> Answer
     ensures { λ r. ⌜ standsFor r (now (out .exit)) ≡ samples (sampler set) n (now (tape .entry)) (now (out .entry)) ⌝ }
 {
-    let Choice::Set(p) = Params::of_set(set) else {
-        return refused(first_stated(n, 1, out.len(), false));
-    };
-    let number = first_stated(n, 1, out.len(), true);
-    if number != 0 {
-        return refused(number);
+    match admit(n, 1, out.len(), set) {
+        Admitted::Refused(number) => refused(number),
+        Admitted::Set(p) => finish(coefficient(p, n, Cursor::start(), tape), out),
     }
-    finish(coefficient(p, n, Cursor::start(), tape), out)
 }
 
-// Where the tape ends, the coefficients written so far are wiped with the rest of the slice.
-pub fn sample_polynomial(tape: &[u32], n: usize, set: u32, out: &mut [u32]) -> Answer
-    ensures { λ r. ⌜ standsFor r (now (out .exit)) ≡ samples (polynomialSampler set) n (now (tape .entry)) (now (out .entry)) ⌝ }
+// The coefficients in the slice, and words used. Where the tape ends, those written so far are wiped with the rest of the slice.
+fn fill(p: Params, n: usize, tape: &[u32], out: &mut [u32]) -> Answer
+    requires { ⌜ Laws p × (2 ≤ n) × (n ≤ 8) × (length (now out) ≡ 256 * n) ⌝ }
+    ensures { λ r. ⌜ standsFor r (now (out .exit)) ≡ ranTold 0 (silentRan (run (polynomial p n (now (out .entry))) (now (tape .entry)) start)) (replicate (length (now (out .entry))) 0) ⌝ }
 {
-    let Choice::Set(p) = Params::of_set(set) else {
-        return refused(first_stated(n, 256, out.len(), false));
-    };
-    let number = first_stated(n, 256, out.len(), true);
-    if number != 0 {
-        return refused(number);
-    }
-    let Written::Up(c) = polynomial(p, n, tape, out) else {
+    let Written::Filled(c) = polynomial(p, n, tape, out) else {
         clear(out);
         return refused(5);
     };
     Answer {
         number: 0,
         used: c.at,
+    }
+}
+
+pub fn sample_polynomial(tape: &[u32], n: usize, set: u32, out: &mut [u32]) -> Answer
+    ensures { λ r. ⌜ standsFor r (now (out .exit)) ≡ samples (polynomialSampler set) n (now (tape .entry)) (now (out .entry)) ⌝ }
+{
+    match admit(n, Params::COEFFICIENTS, out.len(), set) {
+        Admitted::Refused(number) => refused(number),
+        Admitted::Set(p) => fill(p, n, tape, out),
     }
 }

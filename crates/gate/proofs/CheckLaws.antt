@@ -81,38 +81,38 @@ module _ (n room words : ℕ) (inRange : Bool) (more : List (ℕ × Bool)) where
   unfolding firstFailing checksOf
   fails-1 e = rw e
 
-  module _ (count : inside 2 8 n ≡ true) where
+  module _ (least : 2 ≤ n) (most : n ≤ 8) where
     pub fails-2 : (room ≡ words → ⊥) → 2 ≡ firstFailing (checksOf n room words inRange more)
     unfolding firstFailing checksOf
-    fails-2 h = rw (count, ne-eqb room words h)
+    fails-2 h = rw (inside-yes 2 8 n least most, ne-eqb room words h)
 
     module _ (fits : room ≡ words) where
       pub fails-3 : inRange ≡ false → 3 ≡ firstFailing (checksOf n room words inRange more)
       unfolding firstFailing checksOf
-      fails-3 e = rw (count, eq-eqb room words fits, e)
+      fails-3 e = rw (inside-yes 2 8 n least most, eq-eqb room words fits, e)
 
       pub fails-later : inRange ≡ true → firstFailing more ≡ firstFailing (checksOf n room words inRange more)
       unfolding firstFailing checksOf
-      fails-later e = rw (count, eq-eqb room words fits, e)
+      fails-later e = rw (inside-yes 2 8 n least most, eq-eqb room words fits, e)
 
-  -- what is known where none of these fails
-  pub record Counted : Type 0 where
+  -- what is known where no check fails
+  pub record AllPassed : Type 0 where
     pub least : 2 ≤ n
     pub most : n ≤ 8
     pub fits : room ≡ words
     pub range : inRange ≡ true
     pub later : firstFailing more ≡ 0
 
-  pub all-counted : firstFailing (checksOf n room words inRange more) ≡ 0 → Counted
+  pub all-checked : firstFailing (checksOf n room words inRange more) ≡ 0 → AllPassed
   unfolding firstFailing checksOf
-  all-counted e =
+  all-checked e =
       let (c, f) = first (inside 2 8 n) 1 _ e (λ z. omega arith) in
       let (s, g) = first (eqb room words) 2 _ f (λ z. omega arith) in
       let (r, h) = first inRange 3 _ g (λ z. omega arith) in
       let (low, high) = inside-out 2 8 n c in
       record { least = low; most = high; fits = eqb-true room words s; range = r; later = h }
 
-  -- one of these fails, whatever is checked later
+  -- one of the first three fails, whatever is checked later
   pub fails-as : {k : ℕ} → k ≡ firstFailing (checksOf n room words inRange []) → ¬ (k ≡ 0) → k ≡ firstFailing (checksOf n room words inRange more)
   unfolding firstFailing checksOf
   fails-as e h = go (inside 2 8 n) (eqb room words) inRange e h
@@ -123,23 +123,23 @@ module _ (n room words : ℕ) (inRange : Bool) (more : List (ℕ × Bool)) where
       go true false c e h = e
       go false b c e h = e
 
+  -- no number is above 3 but those of what is checked later
+  pub number-most : (top : ℕ) → 3 ≤ top → firstFailing more ≤ top → firstFailing (checksOf n room words inRange more) ≤ top
+  unfolding firstFailing checksOf
+  number-most top h l = go (inside 2 8 n) (eqb room words) inRange
+    where
+      go : (a b c : Bool) → pick a (pick b (pick c (firstFailing more) 3) 2) 1 ≤ top
+      go true true true = l
+      go true true false = h
+      go true false c = omega arith
+      go false b c = omega arith
+
 -- parameters out of range: some check fails
 pub fails-out : (n room words : ℕ) (more : List (ℕ × Bool)) {k : ℕ} → k ≡ firstFailing (checksOf n room words false more) → ¬ (k ≡ 0)
 fails-out n room words more e z =
-    let f : false ≡ true = all-counted n room words false more (sym e ∙ z) .range in
+    let f : false ≡ true = all-checked n room words false more (sym e ∙ z) .range in
     let w : _≡_ {A = ℕ} 0 1 = cc in
     omega arith
-
--- the numbers where there are no shares to check
-pub number-most : (n room words : ℕ) (inRange : Bool) → firstFailing (checksOf n room words inRange []) ≤ 3
-unfolding firstFailing checksOf
-number-most n room words inRange = go (inside 2 8 n) (eqb room words) inRange
-  where
-    go : (a b c : Bool) → pick a (pick b (pick c 0 3) 2) 1 ≤ 3
-    go true true true = omega arith
-    go true true false = omega arith
-    go true false c = omega arith
-    go false b c = omega arith
 
 -- one coefficient takes n words
 pub of-one : (n room : ℕ) (inRange : Bool) (more : List (ℕ × Bool)) {k : ℕ} → k ≡ firstFailing (checksOf n room (1 * n) inRange more) → k ≡ firstFailing (checksOf n room n inRange more)
@@ -155,21 +155,25 @@ module _ (M : ℕ) (shares : List ℕ) where
   unfolding firstFailing
   below-passes e = rw e
 
+  pub below-most : firstFailing ((4, allBelow M shares) ∷ []) ≤ 4
+  unfolding firstFailing
+  below-most = go (allBelow M shares)
+    where
+      go : (b : Bool) → pick b 0 4 ≤ 4
+      go true = omega arith
+      go false = omega arith
+
 module _ (shares : List ℕ) (room : ℕ) (inRange : Bool) (M : ℕ) where
   -- what is known where no check of a gadget on shares fails
   pub record Passed : Type 0 where
-    pub least : 2 ≤ length shares
-    pub most : length shares ≤ 8
-    pub fits : room ≡ length shares
-    pub range : inRange ≡ true
+    pub first : AllPassed (length shares) room (length shares) inRange ((4, allBelow M shares) ∷ [])
     pub below : Words (length shares) M shares
 
   pub all-passed : firstFailing (checks shares room inRange M) ≡ 0 → Passed
   unfolding firstFailing checks
   all-passed e =
-      let c = all-counted (length shares) room (length shares) inRange ((4, allBelow M shares) ∷ []) e in
-      let (b, _) = first (allBelow M shares) 4 0 (c .later) (λ z. omega arith) in
-      record { least = c .least; most = c .most; fits = c .fits; range = c .range; below = below-words M shares b }
+      let c = all-checked (length shares) room (length shares) inRange ((4, allBelow M shares) ∷ []) e in
+      record { first = c; below = below-words M shares (first (allBelow M shares) 4 0 (c .later) (λ z. omega arith) .0) }
 
 -- the bound of a width that is in range
 bound-of-width : {k r : ℕ} → r ≡ 2 ^ (k % 32) → k ≤ 31 → r ≡ 2 ^ k

@@ -1,5 +1,5 @@
 -- Laws of what a gadget tells.
-use mathlib.Core.Path.{_≡_, refl, sym, ap, ap₂, subst, _∙_}
+use mathlib.Core.Path.{_≡_, refl, sym, ap, ap₂, _∙_}
 use mathlib.Core.Bool.{Bool, true}
 use mathlib.Core.List.{List, []}
 use Prim.Native.Nat.{ℕ, _*_, _≤_}
@@ -20,16 +20,16 @@ use Rattle.gate.specs.declared.Answer.{Answer}
 use Rattle.gate.specs.Told.{Told, refusal, silent, silentRan, ranTold, Call, checkNumber, told, standsFor}
 use Rattle.gate.specs.Gadget.{silentSteps, silentGadget, closed, call, tells}
 use Rattle.gate.specs.Sampler.{Sampler, samplerCall, samples}
-use Rattle.gate.proofs.CheckLaws.{Passed, number-most}
+use Rattle.gate.proofs.CheckLaws.{Passed}
 
 module _ (c : Call) (tape : List ℕ) where
   -- no check fails
-  pub tells-passed : checkNumber c ≡ 0 → told c tape ≡ ranTold (c .fields) (run (c .program) tape start) (c .leaves 5)
+  pub tells-passed : checkNumber c ≡ 0 → told c tape ≡ ranTold (c .fields) (run (c .program) tape start) (c .short)
   unfolding told
   tells-passed e = rw (eq-eqb (checkNumber c) 0 e)
 
   -- one does
-  pub tells-refused : (checkNumber c ≡ 0 → ⊥) → told c tape ≡ refusal (c .fields) (checkNumber c) (c .leaves (checkNumber c))
+  pub tells-refused : (checkNumber c ≡ 0 → ⊥) → told c tape ≡ refusal (c .fields) (checkNumber c) (c .out)
   unfolding told
   tells-refused n = rw (ne-eqb (checkNumber c) 0 n)
 
@@ -61,8 +61,8 @@ module _ (x : Ran (List ℕ)) (out : List ℕ) where
   told-ran e r f g = rw (e, f, g)
 
 -- a call keeps its promise where a check failed
-pub by-check : (c : Call) (tape : List ℕ) {k : ℕ} {t : Told} → k ≡ checkNumber c → (k ≡ 0 → ⊥) → t ≡ refusal (c .fields) k (c .leaves k) → t ≡ told c tape
-by-check c tape e n f = f ∙ ap (λ (m : ℕ). refusal (c .fields) m (c .leaves m)) e ∙ sym (tells-refused c tape (λ z. n (e ∙ z)))
+pub by-check : (c : Call) (tape : List ℕ) {k : ℕ} {t : Told} → k ≡ checkNumber c → (k ≡ 0 → ⊥) → t ≡ refusal (c .fields) k (c .out) → t ≡ told c tape
+by-check c tape e n f = f ∙ ap (λ (m : ℕ). refusal (c .fields) m (c .out)) e ∙ sym (tells-refused c tape (λ z. n (e ∙ z)))
 
 -- a public gadget that opens nothing keeps its promise: where a check failed, and where its steps ran
 module _ (inRange : Bool) (input output : Sharing) (steps : List ℕ → Draws (List ℕ)) (shares tape out : List ℕ) where
@@ -79,25 +79,19 @@ module _ (inRange : Bool) (input output : Sharing) (steps : List ℕ → Draws (
       f ∙ ap (λ y. ranTold 0 (silentRan y) out) h ∙ ap (λ y. ranTold 0 y out) (sym (closed-silent output (steps shares) tape start))
       ∙ sym (tells-passed (call (silentGadget inRange input output steps) shares out) tape e)
 
--- so does a sampler, whose range was found to be b, and which keeps its slice where a check fails
-module _ (g : Sampler) (n : ℕ) (tape out : List ℕ) (b : Bool) (found : b ≡ g .inRange) where
-  ranged : {k : ℕ} → k ≡ firstFailing (checksOf n (length out) (g .coefficients * n) b []) → k ≡ checkNumber (samplerCall g n out)
-  unfolding checkNumber
-  ranged e = e ∙ ap (λ (c : Bool). firstFailing (checksOf n (length out) (g .coefficients * n) c [])) found
-
-  pub sampler-refused : {k : ℕ} {t : Told} → ((m : ℕ) → m ≤ 3 → g .leaves m out ≡ out) → k ≡ firstFailing (checksOf n (length out) (g .coefficients * n) b []) → (k ≡ 0 → ⊥) →
+-- so does a sampler
+module _ (g : Sampler) (n : ℕ) (tape out : List ℕ) where
+  pub sampler-refused : {k : ℕ} {t : Told} → k ≡ firstFailing (checksOf n (length out) (g .coefficients * n) (g .inRange) []) → (k ≡ 0 → ⊥) →
       t ≡ refusal 0 k out → t ≡ samples g n tape out
-  unfolding samples
-  sampler-refused {k} keeps e h f =
-      by-check (samplerCall g n out) tape (ranged e) h
-      (f ∙ ap (refusal 0 k) (sym (keeps k (subst (λ (m : ℕ). m ≤ 3) (sym e) (number-most n (length out) (g .coefficients * n) b)))))
+  unfolding samples checkNumber
+  sampler-refused e h f = by-check (samplerCall g n out) tape e h f
 
-  pub sampler-ran : {t : Told} {x : Ran (List ℕ)} → 0 ≡ firstFailing (checksOf n (length out) (g .coefficients * n) b []) →
-      t ≡ ranTold 0 (silentRan x) (g .leaves 5 out) → x ≡ run (g .steps n out) tape start → t ≡ samples g n tape out
-  unfolding samples
+  pub sampler-ran : {t : Told} {x : Ran (List ℕ)} → 0 ≡ firstFailing (checksOf n (length out) (g .coefficients * n) (g .inRange) []) →
+      t ≡ ranTold 0 (silentRan x) (g .short out) → x ≡ run (g .steps n out) tape start → t ≡ samples g n tape out
+  unfolding samples checkNumber
   sampler-ran e f h =
-      f ∙ ap (λ y. ranTold 0 (silentRan y) (g .leaves 5 out)) h ∙ ap (λ y. ranTold 0 y (g .leaves 5 out)) (sym (run-silent (g .steps n out) tape start))
-      ∙ sym (tells-passed (samplerCall g n out) tape (sym (ranged e)))
+      f ∙ ap (λ y. ranTold 0 (silentRan y) (g .short out)) h ∙ ap (λ y. ranTold 0 y (g .short out)) (sym (run-silent (g .steps n out) tape start))
+      ∙ sym (tells-passed (samplerCall g n out) tape (sym e))
 
 -- steps that ran on the copied shares from the tape's start ran on the shares
 pub on-copy : (d : List ℕ → Draws (List ℕ)) {shares words : List ℕ} (tape : List ℕ) {room M : ℕ} {c : Cursor} {s : Shared} →
@@ -113,7 +107,7 @@ closed-on-copy d output {shares} tape {r = r} w e f g h =
 
 -- as many words as there are shares, where no check failed
 held-all : {shares words : List ℕ} {room : ℕ} {inRange : Bool} {M N : ℕ} → Passed shares room inRange M → 2 ≤ N → Words 8 N words → Held 8 (length shares) N words
-held-all p two w = record { least = p .least; most = p .most; two = two; all = w }
+held-all p two w = record { least = p .first .least; most = p .first .most; two = two; all = w }
 
 -- the copied shares, below M
 pub held : {shares words : List ℕ} {room : ℕ} {inRange : Bool} {M : ℕ} → Passed shares room inRange M → 2 ≤ M → Copied 8 shares words → Held 8 (length shares) M words

@@ -33,14 +33,15 @@ silentGadget inRange input output steps = record { inRange = inRange; input = in
 unfoldable pub closed : Sharing → Draws Outcome → Draws Outcome
 closed s d = bind d (λ o. bind (refresh s (o .shares)) (λ zs. done (record { opened = o .opened; shares = zs })))
 
--- a call of it; a refusal leaves the output slice unchanged
+-- a call of it; number 5 leaves the output slice unchanged too
 abbrev pub call : Gadget → (shares out : List ℕ) → Call
 call g shares out =
     record {
       checks = checks shares (length out) (g .inRange) (bound (g .input));
       program = closed (g .output) (g .steps shares);
       fields = g .fields;
-      leaves = λ number. out;
+      out = out;
+      short = out;
     }
 
 unfoldable pub tells : Gadget → (shares tape out : List ℕ) → Told

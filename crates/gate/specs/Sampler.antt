@@ -16,8 +16,8 @@ pub record Sampler : Type 0 where
   pub coefficients : ℕ
   -- its steps for n shares, the closing refresh of each coefficient included, on the output slice
   pub steps : ℕ → List ℕ → Draws (List ℕ)
-  -- what a refusal with this number makes of the output slice
-  pub leaves : ℕ → List ℕ → List ℕ
+  -- what number 5 makes of the output slice
+  pub short : List ℕ → List ℕ
 
 -- a call of it: the share count n is stated, and number 4 cannot arise
 abbrev pub samplerCall : Sampler → (n : ℕ) (out : List ℕ) → Call
@@ -26,7 +26,8 @@ samplerCall g n out =
       checks = checksOf n (length out) (g .coefficients * n) (g .inRange) [];
       program = silentSteps (g .steps n out);
       fields = 0;
-      leaves = λ number. g .leaves number out;
+      out = out;
+      short = g .short out;
     }
 
 unfoldable pub samples : Sampler → (n : ℕ) (tape out : List ℕ) → Told

@@ -34,10 +34,10 @@ unfoldable pub silentRan : Ran (List ℕ) → Ran Outcome
 silentRan ended = ended
 silentRan (ran xs c) = ran (silent xs) c
 
--- the tape ends before the last draw, or the number is 0 and the shares fill the output slice
-unfoldable pub ranTold : ℕ → Ran Outcome → List ℕ → Told
-ranTold fields ended out = refusal fields 5 out
-ranTold fields (ran o c) out = record { number = 0; opened = o .opened; used = c .at; out = o .shares }
+-- the tape ends before the last draw, which leaves `short` in the output slice, or the number is 0 and the shares fill it
+unfoldable pub ranTold : ℕ → Ran Outcome → (short : List ℕ) → Told
+ranTold fields ended short = refusal fields 5 short
+ranTold fields (ran o c) short = record { number = 0; opened = o .opened; used = c .at; out = o .shares }
 
 -- a call, all but its tape given
 pub record Call : Type 0 where
@@ -46,8 +46,10 @@ pub record Call : Type 0 where
   pub program : Draws Outcome
   -- how many numbers it opens
   pub fields : ℕ
-  -- what a refusal with this number leaves in the output slice
-  pub leaves : ℕ → List ℕ
+  -- the output slice, which a refusal by a check leaves unchanged
+  pub out : List ℕ
+  -- and what number 5 leaves in it
+  pub short : List ℕ
 
 -- the number of the first check that fails, or 0
 unfoldable pub checkNumber : Call → ℕ
@@ -56,8 +58,8 @@ checkNumber c = firstFailing (c .checks)
 -- what it tells: a refusal by the first check that fails, or what its program gives on the tape
 unfoldable pub told : Call → (tape : List ℕ) → Told
 told c tape =
-    pick (eqb (checkNumber c) 0) (ranTold (c .fields) (run (c .program) tape start) (c .leaves 5))
-    (refusal (c .fields) (checkNumber c) (c .leaves (checkNumber c)))
+    pick (eqb (checkNumber c) 0) (ranTold (c .fields) (run (c .program) tape start) (c .short))
+    (refusal (c .fields) (checkNumber c) (c .out))
 
 -- what an answer with no other field and the output slice stand for
 unfoldable pub standsFor : Answer → List ℕ → Told

@@ -43,9 +43,9 @@ fn all_below(shares: &[u32], m: u32) -> bool
     true
 }
 
-// The number of the first check that fails, or 0, where the share count is stated and there are no shares to look at.
-// The words of so many coefficients are counted only once n is known to be small.
-pub fn first_stated(n: usize, coefficients: usize, room: usize, in_range: bool) -> u32
+// The number of the first of the checks 1 to 3 that fails, or 0: the share count, the room for so many coefficients, the parameters.
+// Their words are counted only once n is known to be small.
+pub fn first_of_three(n: usize, coefficients: usize, room: usize, in_range: bool) -> u32
     requires { ⌜ coefficients ≤ 256 ⌝ }
     ensures { λ r. ⌜ r ≡ firstFailing (checksOf n room (coefficients * n) in_range []) ⌝ }
 {
@@ -61,11 +61,11 @@ pub fn first_stated(n: usize, coefficients: usize, room: usize, in_range: bool) 
     if in_range { 0 } else { 3 }
 }
 
-// The same with shares: none is looked at before the parameters are found to be in range.
+// The same of all checks on shares, of which none is looked at before the parameters are found to be in range.
 pub fn first_failing(shares: &[u32], room: usize, in_range: bool, m: u32) -> u32
     ensures { λ r. ⌜ r ≡ firstFailing (checks (now (shares .entry)) room in_range m) ⌝ }
 {
-    let number = first_stated(shares.len(), 1, room, in_range);
+    let number = first_of_three(shares.len(), 1, room, in_range);
     if number != 0 {
         return number;
     }

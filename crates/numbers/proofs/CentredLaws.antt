@@ -22,7 +22,7 @@ less-under a zero h = absurd (omega arith)
 less-under a (suc b) h = rw (lt-ltb a (suc b) h)
 
 module _ (x g : ℕ) where
-  -- lies from −g up to any h with x up to g + h
+  -- x less g is at least −g, and at most any h for which x is at most g + h
   pub less-least : negℤ (pos g) ≤ℤ (pos x -ℤ pos g)
   less-least = go g (decLe g x)
     where

@@ -16,7 +16,7 @@ alpha-most n h = alpha-smallest n .least 3 h
 pub q-room : (n : ℕ) → n ≤ 8 → 2 ^ alpha n * q < 2 ^ 32
 q-room n h = let l : 2 ^ alpha n ≤ 2 ^ 3 = pow-mono (alpha-most n h) in omega arith
 
--- powers of two grow with their exponents
+-- of two powers of two the smaller has the smaller exponent
 power-below : (i j : ℕ) → 2 ^ i < 2 ^ j → i < j
 power-below i j h = go (decLt i j)
   where

@@ -1,4 +1,4 @@
--- What the gadgets ask of a parameter set. Each holds of all three sets (`set-laws`), and nothing else about a set's numbers is used.
+-- What gadgets may ask of a parameter set: each holds of all three sets (`set-laws`), and a gadget goes by these alone and by no set's numbers.
 use mathlib.Core.Path.{_≡_}
 use Prim.Native.Nat.{_+_, _-_, _*_, _^_, _≤_, _<_}
 use Rattle.numbers.specs.Modulo.{q}

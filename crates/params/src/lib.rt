@@ -1,4 +1,4 @@
-// The parameter sets of ML-DSA: the constants of each stand here and nowhere else.
+// The parameter sets of ML-DSA: in code the constants of each stand here alone.
 ghost use mathlib.Core.Path.{_≡_};
 ghost use Rattle.params.specs.Sets.{bounds, setOf};
 ghost use Rattle.params.specs.Answers.{choiceStandsFor};
@@ -40,6 +40,9 @@ impl Params {
 
     // The largest number of shares.
     pub const MOST: usize = 8;
+
+    // A polynomial has so many coefficients.
+    pub const COEFFICIENTS: usize = 256;
 
     pub fn of_set(set: u32) -> Choice
         ensures { λ r. ⌜ choiceStandsFor r ≡ setOf set ⌝ }

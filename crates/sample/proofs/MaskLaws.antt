@@ -20,21 +20,21 @@ use Rattle.tape.specs.Tape.{ran, start}
 use Rattle.draws.specs.Draws.{done, turns, each, run}
 use Rattle.draws.specs.Plan.{drawAll}
 use Rattle.draws.proofs.RunLaws.{bind-parts}
-use Rattle.draws.proofs.PlanLaws.{always-run, gives-all, fits-words}
+use Rattle.draws.proofs.PlanLaws.{always-run, words-used, run-reads, gives-all, fits-words}
 use Rattle.shares.specs.Sharing.{arithmetic, value}
 use Rattle.shares.proofs.SharingLaws.{Shares}
-use Rattle.sample.specs.Sampling.{maskPlan, coefficient, filled, row, polynomial}
+use Rattle.sample.specs.Sampling.{maskPlan, masked, coefficient, filled, row, polynomial}
 use Rattle.sample.specs.Masks.{Mask, Masks}
 use Rattle.sample.proofs.RowLaws.{row-within, filled-length, filled-upto, front-of, part-of}
-use Rattle.sample.proofs.ValueLaws.{rest, drawn-below, rest-gives}
+use Rattle.sample.proofs.ValueLaws.{drawn-below, masked-gives, coefficient-gives}
 
 module _ {p : Params} (l : Laws p) (n : ℕ) (least : 0 < n) (most : n ≤ 8) (tape : List ℕ) where
   pub coefficient-masks : {from to : Cursor} {ys : List ℕ} → run (coefficient p n) tape from ≡ ran ys to → Mask p n tape from to ys
   unfolding coefficient
   coefficient-masks {from} {to} {ys} e =
-      let (xs, s, first, last) = bind-parts (drawAll (maskPlan p n)) (rest l n least most) tape from e in
+      let (xs, s, first, last) = bind-parts (drawAll (maskPlan p n)) (masked p) tape from e in
       let w : Words n (2 ^ p .mu) xs = fits-words n (2 ^ p .mu) xs (always-run (gives-all (maskPlan p n) .always) tape from first) in
-      let a : Shares (arithmetic q) n (subMod q (xorAll xs) (p .gamma1 - 1)) ys = always-run (rest-gives l n least most xs w .always) tape s last in
+      let a : Shares (arithmetic q) n (subMod q (xorAll xs) (p .gamma1 - 1)) ys = always-run (masked-gives l n least most xs w .always) tape s last in
       let x : ℕ = xorAll xs in
       let g : ℕ = p .gamma1 - 1 in
       let small : x < 2 * p .gamma1 = drawn-below l n least most xs w in
@@ -43,6 +43,8 @@ module _ {p : Params} (l : Laws p) (n : ℕ) (least : 0 < n) (most : n ≤ 8) (t
       record {
         steps = e;
         words = a .words;
+        used = words-used (coefficient-gives l n least most .plan) tape from e;
+        read = λ other same. run-reads (coefficient p n) from e same;
         drawn = xs;
         place = s;
         first = first;

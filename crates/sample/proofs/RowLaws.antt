@@ -12,7 +12,7 @@ use Rattle.tape.specs.Tape.{Ran, ended, ran, start}
 use Rattle.draws.specs.Draws.{each, run}
 use Rattle.draws.proofs.RunLaws.{bind-ran, bind-ended, run-done, each-done, each-more, each-ended}
 use Rattle.sample.specs.declared.Written.{Written}
-use Rattle.sample.specs.declared.Written.the-variants.{Up, Ended}
+use Rattle.sample.specs.declared.Written.the-variants.{Filled, Ended}
 use Rattle.sample.specs.Sampling.{coefficient, filled, row, polynomial}
 use Rattle.sample.specs.Answers.{writtenStandsFor}
 
@@ -83,7 +83,7 @@ module _ {p : Params} {n : ℕ} {tape : List ℕ} {x : Ran (List ℕ)} {c : ℕ}
       filling-ended e = sym (each-ended (row p n) c 256 out tape cursor h (bind-ended (coefficient p n) _ tape cursor (sym told ∙ ap (λ (w : Written). writtenStandsFor w ys) e))) ∙ a .same
 
       -- and comes back
-      pub filling-more : {next : Cursor} → d ≡ Up next → length ys ≡ n → Filling p n tape x (c + 1) (take (c * n) out ++ (ys ++ drop (c * n + n - c * n) (drop (c * n) out))) next
+      pub filling-more : {next : Cursor} → d ≡ Filled next → length ys ≡ n → Filling p n tape x (c + 1) (take (c * n) out ++ (ys ++ drop (c * n + n - c * n) (drop (c * n) out))) next
       unfolding row writtenStandsFor
       filling-more {next} e l =
           let back = filled-back (c * n) n ys out l in

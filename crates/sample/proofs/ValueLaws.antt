@@ -12,33 +12,29 @@ use Rattle.numbers.proofs.FoldLaws.{fold-below}
 use Rattle.params.specs.declared.Params.{Params}
 use Rattle.params.specs.Laws.{Laws}
 use Rattle.params.proofs.RoomLaws.{alpha-most, mask-most, mask-small}
-use Rattle.draws.specs.Draws.{Draws, bind, each}
+use Rattle.draws.specs.Draws.{each}
 use Rattle.draws.proofs.Outcomes.{Gives}
-use Rattle.draws.proofs.PlanLaws.{gives-bind, gives-map, gives-each, gives-as, gives-all, fits-words}
+use Rattle.draws.proofs.PlanLaws.{gives-bind, gives-map, gives-rounds, gives-as, gives-all, fits-words}
 use Rattle.shares.specs.Sharing.{arithmetic}
 use Rattle.shares.specs.Refresh.{refresh, refreshPlan}
 use Rattle.shares.proofs.SharingLaws.{Shares}
 use Rattle.shares.proofs.MoveLaws.{taken-value}
 use Rattle.shares.proofs.RefreshLaws.{refresh-keeps}
-use Rattle.switching.specs.ToModulus.{toModulus, toModulusPlan}
+use Rattle.switching.specs.ToModulus.{toModulusPlan}
 use Rattle.switching.proofs.ValueLaws.{to-modulus-keeps}
-use Rattle.sample.specs.Sampling.{lowered, maskPlan, coefficient, coefficientPlan, filled, row, polynomial, polynomialPlan}
+use Rattle.sample.specs.Sampling.{lowered, maskPlan, masked, coefficient, coefficientPlan, filled, row, polynomial, polynomialPlan}
 use Rattle.sample.proofs.RowLaws.{row-within, filled-length}
 
 module _ {p : Params} (l : Laws p) (n : ℕ) (least : 0 < n) (most : n ≤ 8) where
-  -- the steps after the draws of the mask
-  abbrev pub rest : List ℕ → Draws (List ℕ)
-  rest xs = bind (toModulus q (p .mu) xs) (λ ys. refresh (arithmetic q) (lowered (p .gamma1) ys))
-
   -- the exclusive or of the words drawn is below 2γ1
   pub drawn-below : (xs : List ℕ) → Words n (2 ^ p .mu) xs → xorAll xs < 2 * p .gamma1
   unfolding xorAll
   drawn-below xs w = subst (xorAll xs <_) (l .mask) (fold-below (xors (p .mu)) xs w)
 
-  pub rest-gives : (xs : List ℕ) → Words n (2 ^ p .mu) xs →
-      Gives (Shares (arithmetic q) n (subMod q (xorAll xs) (p .gamma1 - 1))) (rest xs) (toModulusPlan q (p .mu) n ++ refreshPlan (arithmetic q) n)
+  pub masked-gives : (xs : List ℕ) → Words n (2 ^ p .mu) xs →
+      Gives (Shares (arithmetic q) n (subMod q (xorAll xs) (p .gamma1 - 1))) (masked p xs) (toModulusPlan q (p .mu) n ++ refreshPlan (arithmetic q) n)
   unfolding lowered
-  rest-gives xs w =
+  masked-gives xs w =
       let small : xorAll xs % q ≡ xorAll xs = mod-eq-of-lt (omega (arith, drawn-below xs w, mask-small l)) in
       gives-bind (λ ys. refresh (arithmetic q) (lowered (p .gamma1) ys)) (refreshPlan (arithmetic q) n)
       (to-modulus-keeps q (p .mu) n (xorAll xs) xs (omega arith) (omega (arith, mask-most l, alpha-most n most)) least (record { words = w; is = refl }))
@@ -48,12 +44,12 @@ module _ {p : Params} (l : Laws p) (n : ℕ) (least : 0 < n) (most : n ≤ 8) wh
   pub coefficient-gives : Gives (Words n q) (coefficient p n) (coefficientPlan p n)
   unfolding coefficient coefficientPlan
   coefficient-gives =
-      gives-bind rest (toModulusPlan q (p .mu) n ++ refreshPlan (arithmetic q) n) (gives-all (maskPlan p n))
-      (λ xs f. gives-as (λ ys a. a .words) (rest-gives xs (fits-words n (2 ^ p .mu) xs f)))
+      gives-bind (masked p) (toModulusPlan q (p .mu) n ++ refreshPlan (arithmetic q) n) (gives-all (maskPlan p n))
+      (λ xs f. gives-as (λ ys a. a .words) (masked-gives xs (fits-words n (2 ^ p .mu) xs f)))
 
   pub polynomial-gives : (out : List ℕ) → length out ≡ 256 * n → Gives (λ o. length o ≡ 256 * n) (polynomial p n out) (polynomialPlan p n)
   unfolding polynomial polynomialPlan each row
-  polynomial-gives out e = gives-each (λ c o. length o ≡ 256 * n) (row p n) (coefficientPlan p n) 256 turn 0 256 out (omega arith) e
+  polynomial-gives out e = gives-rounds (λ c o. length o ≡ 256 * n) (row p n) (coefficientPlan p n) 256 turn 0 256 out (omega arith) e
     where
       turn : (c : ℕ) (o : List ℕ) → c < 256 → length o ≡ 256 * n → Gives (λ r. length r ≡ 256 * n) (row p n c o) (coefficientPlan p n)
       turn c o h f =

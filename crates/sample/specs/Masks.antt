@@ -1,8 +1,8 @@
 -- What a sampled mask is, in shares: one coefficient, and the coefficients of a polynomial (document 01, "Sampling").
 use mathlib.Core.Path.{_≡_}
 use mathlib.Core.List.{List}
-use Prim.Native.Nat.{ℕ, suc, _-_, _*_, _<_}
-use lib.ListN.{take, drop}
+use Prim.Native.Nat.{ℕ, suc, _+_, _-_, _*_, _<_}
+use lib.ListN.{length, take, drop}
 use lib.IntN.{pos, negℤ, _-ℤ_}
 use lib.Signed.{_≤ℤ_}
 use Rattle.numbers.specs.Modulo.{q}
@@ -12,14 +12,18 @@ use Rattle.params.specs.declared.Params.{Params}
 use Rattle.tape.specs.declared.Cursor.{Cursor}
 use Rattle.tape.specs.Tape.{ran, start}
 use Rattle.draws.specs.Draws.{run}
-use Rattle.draws.specs.Plan.{drawAll}
+use Rattle.draws.specs.Plan.{drawAll, skipped}
+use Rattle.draws.specs.Anew.{Same}
 use Rattle.shares.specs.Sharing.{arithmetic, value}
-use Rattle.sample.specs.Sampling.{maskPlan, coefficient}
+use Rattle.sample.specs.Sampling.{maskPlan, coefficient, coefficientPlan}
 
--- the n shares ys of one coefficient, from its own part of the tape
+-- the n shares ys of one coefficient, from the words of the tape between two places
 pub record Mask (p : Params) (n : ℕ) (tape : List ℕ) (from to : Cursor) (ys : List ℕ) : Type 0 where
   pub steps : run (coefficient p n) tape from ≡ ran ys to
   pub words : Words n q ys
+  -- these words are its draws and the words that they skip, and it depends on no other: a tape that has them there gives the same
+  pub used : to .at ≡ from .at + length (coefficientPlan p n) + skipped (coefficientPlan p n) tape from
+  pub read : (other : List ℕ) → Same tape other (from .at) (to .at) → run (coefficient p n) other from ≡ ran ys to
   -- the words that are drawn first
   pub drawn : List ℕ
   pub place : Cursor

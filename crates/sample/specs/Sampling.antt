@@ -19,12 +19,13 @@ lowered γ1 xs = change (λ x. subMod q x (γ1 - 1)) 0 xs
 abbrev pub maskPlan : Params → ℕ → List ℕ
 maskPlan p n = replicate n (2 ^ p .mu)
 
--- one coefficient: they are drawn, converted to mod q, lowered by γ1 − 1, and closed
+-- then they are converted to mod q, lowered by γ1 − 1, and closed
+abbrev pub masked : Params → List ℕ → Draws (List ℕ)
+masked p xs = bind (toModulus q (p .mu) xs) (λ ys. refresh (arithmetic q) (lowered (p .gamma1) ys))
+
+-- one coefficient
 unfoldable pub coefficient : Params → ℕ → Draws (List ℕ)
-coefficient p n =
-    bind (drawAll (maskPlan p n)) (λ xs.
-    bind (toModulus q (p .mu) xs) (λ ys.
-    refresh (arithmetic q) (lowered (p .gamma1) ys)))
+coefficient p n = bind (drawAll (maskPlan p n)) (masked p)
 
 unfoldable pub coefficientPlan : Params → ℕ → List ℕ
 coefficientPlan p n = maskPlan p n ++ (toModulusPlan q (p .mu) n ++ refreshPlan (arithmetic q) n)

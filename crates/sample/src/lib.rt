@@ -6,8 +6,8 @@ pub use one::coefficient;
 pub use rows::polynomial;
 use tape::Cursor;
 
-// What was lent is filled, and the place of the next word; or the tape has ended.
+// What was lent is filled, and the place of the next word; or the tape has ended, and nothing is said of what was lent.
 pub enum Written {
-    Up(Cursor),
+    Filled(Cursor),
     Ended,
 }

@@ -42,7 +42,7 @@ fn draw_shares(n: usize, mu: u32, cursor: Cursor, tape: &[u32]) -> Shared
 
 // The mask's offset, gamma1 − 1, taken from the first share.
 fn lower(shares: [u32; Params::MOST], gamma1: u32) -> [u32; Params::MOST]
-    requires { ⌜ (1 ≤ gamma1) × (gamma1 ≤ q) × Words 8 q shares ⌝ }
+    requires { ⌜ (1 ≤ gamma1) × (gamma1 < q) × Words 8 q shares ⌝ }
     ensures { λ r. ⌜ r ≡ lowered gamma1 shares ⌝ }
 {
     let mut words = shares;

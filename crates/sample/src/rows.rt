@@ -25,7 +25,7 @@ fn write_row(p: Params, n: usize, cursor: Cursor, tape: &[u32], row: &mut [u32])
     let words = s.words;
     copy_out(words, row);
     let c = s.cursor;
-    Written::Up(c)
+    Written::Filled(c)
 }
 
 pub fn polynomial(p: Params, n: usize, tape: &[u32], out: &mut [u32]) -> Written
@@ -33,12 +33,12 @@ pub fn polynomial(p: Params, n: usize, tape: &[u32], out: &mut [u32]) -> Written
     ensures { λ r. ⌜ writtenStandsFor r (now (out .exit)) ≡ run (polynomial p n (now (out .entry))) (now (tape .entry)) start ⌝ }
 {
     let mut cursor = Cursor::start();
-    for c in 0..256 {
+    for c in 0..Params::COEFFICIENTS {
         let place = c * n;
-        let Written::Up(next) = write_row(p, n, cursor, tape, &mut out[place..place + n]) else {
+        let Written::Filled(next) = write_row(p, n, cursor, tape, &mut out[place..place + n]) else {
             return Written::Ended;
         };
         cursor = next;
     }
-    Written::Up(cursor)
+    Written::Filled(cursor)
 }

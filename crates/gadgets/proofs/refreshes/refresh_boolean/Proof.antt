@@ -1,16 +1,16 @@
 use borrow.Author.Needs.{needs}
 use mathlib.Core.Path.{_≡_, sym, _∙_}
+use Prim.Native.Nat.{ℕ, _^_, _≤_}
 use native.Mathlib.Omega.{arith}
 use lib.ListN.{length}
+use lib.Pow.{pow-mono}
 use denote.Ref.{now}
 use Rattle.draws.specs.Draws.{bind, done}
+use Rattle.shares.specs.Refresh.{refresh}
+use Rattle.shares.specs.Sharing.{boolean}
 use Rattle.gate.specs.Checks.{inside, firstFailing, checks}
 use Rattle.gate.proofs.CheckLaws.{Passed, all-passed, inside-out, checked-width}
 use Rattle.gate.proofs.GadgetLaws.{silent-refused, silent-ran, on-copy, held}
-use Prim.Native.Nat.{ℕ, _^_, _≤_}
-use lib.Pow.{pow-mono}
-use Rattle.shares.specs.Refresh.{refresh}
-use Rattle.shares.specs.Sharing.{boolean}
 use Rattle.gadgets.specs.Refresh.{booleanGadget}
 use Rattle.gadgets.proofs.refreshes.refresh_boolean.Statement.{statement}
 use Rattle.gadgets.proofs.refreshes.refresh_boolean.Tie as tie
@@ -45,7 +45,7 @@ unfolding booleanGadget
 returns c = silent-refused _ (boolean _) _ done _ _ _ (number (c .before .before)) (c .before .if1 .taken) (c .refused .ensures _)
 
 copy-in-requires : tie.Need-copy-in-requires
-copy-in-requires c κs = good c .most
+copy-in-requires c κs = good c .first .most
 
 start-requires : tie.Need-start-requires
 start-requires c κs = search needs
@@ -53,11 +53,11 @@ start-requires c κs = search needs
 refresh-boolean-requires : tie.Need-refresh-boolean-requires
 refresh-boolean-requires c κs =
     let p = good (c .before .before) in
-    let (low, high) = inside-out 1 31 _ (p .range) in
+    let (low, high) = inside-out 1 31 _ (p .first .range) in
     (high, held p (two _ low) (c .before .copy-in .ensures))
 
 finish-requires : tie.Need-finish-requires
-finish-requires c κs = let p = good (c .before .before .before .before) in omega (arith, p .fits, p .most)
+finish-requires c κs = let p = good (c .before .before .before .before) in omega (arith, p .first .fits, p .first .most)
 
 same-length : tie.Need-same-length
 same-length c = search needs
@@ -69,7 +69,7 @@ returns-2 c =
     let r = f .before .before in
     let p = good (r .before .before .before) in
     silent-ran _ (boolean _) _ done _ _ _ (sym (number (r .before .before .before .before)) ∙ r .before .before .before .if1 .left) (f .finish .ensures)
-    (on-copy (refresh (boolean _)) _ (r .before .before .copy-in .ensures) (p .fits) (r .before .start .ensures) (r .refresh-boolean .ensures))
+    (on-copy (refresh (boolean _)) _ (r .before .before .copy-in .ensures) (p .first .fits) (r .before .start .ensures) (r .refresh-boolean .ensures))
 
 pub refresh-boolean-spec : {M : Type 1} → statement M
 refresh-boolean-spec =

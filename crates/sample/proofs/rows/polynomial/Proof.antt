@@ -1,6 +1,6 @@
 use borrow.Author.Needs.{needs}
 use mathlib.Core.Path.{_∙_}
-use Prim.Native.Nat.{_+_, _-_, _*_, _≤_}
+use Prim.Native.Nat.{_+_, _-_, _*_, _≤_, _<_}
 use native.Mathlib.Omega.{arith}
 use lib.ListN.{length}
 use Rattle.tape.specs.Tape.{start}
@@ -17,12 +17,15 @@ Inv-loop p n tape out₀ cursor₀ c₀ out cursor c = Filling p n tape (run (po
 abbrev μ-loop : tie.MeasureT-loop
 μ-loop p n tape out₀ cursor₀ c₀ out cursor c = 256 - c
 
+few : (c : tie.In-loop Inv-loop μ-loop) → c .before .loop .c < 256
+few c = omega (arith, c .loop-test .taken)
+
 -- the row lies within the slice
 within : (c : tie.In-loop Inv-loop μ-loop) →
     let l = c .before in
     let n = l .before .before .before .before .args .n in
     l .loop .c * n + n ≤ length (l .loop .out)
-within c = filling-within (c .before .loop .inv) (c .loop-test .taken)
+within c = filling-within (c .before .loop .inv) (few c)
 
 start-requires : tie.Need-start-requires Inv-loop μ-loop
 start-requires c κs = search needs
@@ -65,7 +68,7 @@ unfolding writtenStandsFor
 returns c =
     let w = c .before .before .before .before in
     let i = w .before .before in
-    filling-ended (i .before .loop .inv) (i .loop-test .taken) _ _ (w .write-row .ensures) (c .enum-told .given .1)
+    filling-ended (i .before .loop .inv) (few i) _ _ (w .write-row .ensures) (c .enum-told .given .1)
 
 add-c : tie.Need-add-c Inv-loop μ-loop
 add-c c = search needs
@@ -79,7 +82,7 @@ loop-again c =
     let o = g .before .before .before in
     let w = o .before in
     let i = w .before .before in
-    filling-more (i .before .loop .inv) (i .loop-test .taken) _ _ (w .write-row .ensures) (g .next .given .1) (o .out .given .0 ∙ lent-length _ _ _ (within i))
+    filling-more (i .before .loop .inv) (few i) _ _ (w .write-row .ensures) (g .next .given .1) (o .out .given .0 ∙ lent-length _ _ _ (within i))
 
 same-length-2 : tie.Need-same-length-2 Inv-loop μ-loop
 same-length-2 c = search needs

@@ -1,0 +1,65 @@
+use borrow.Author.Needs.{needs}
+use mathlib.Core.Path.{_≡_, sym, ap, _∙_}
+use mathlib.Core.Bool.{Bool}
+use mathlib.Core.List.{[]}
+use Prim.Native.Nat.{_*_}
+use Rattle.params.specs.Sets.{known}
+use Rattle.params.proofs.SetLaws.{set-known, set-params, set-unknown}
+use Rattle.gate.specs.Checks.{firstFailing, checksOf}
+use Rattle.gate.proofs.CheckLaws.{fails-out}
+use Rattle.gadgets.proofs.samplers.admit.Statement.{statement}
+use Rattle.gadgets.proofs.samplers.admit.Tie as tie
+
+-- the set is known, and so its range was found
+found : (c : tie.After-first-of-three2) →
+    let a = c .before .before .before .before .before .args in
+    c .first-of-three2 .result ≡ firstFailing (checksOf (a .n) (a .room) (a .coefficients * a .n) (known (a .set)) [])
+found c =
+    let p = c .before .before in
+    let o = p .before .before in
+    let a = o .before .args in
+    c .first-of-three2 .ensures
+    ∙ ap (λ (b : Bool). firstFailing (checksOf (a .n) (a .room) (a .coefficients * a .n) b [])) (sym (set-known _ _ (o .of-set .ensures) (p .p .given .1)))
+
+of-set-requires : tie.Need-of-set-requires
+of-set-requires c κs = search needs
+
+enum-known-p : tie.Need-enum-known-p
+enum-known-p c = search needs
+
+enum-told : tie.Need-enum-told
+enum-told c = search needs
+
+first-of-three-requires : tie.Need-first-of-three-requires
+first-of-three-requires c κs = search needs
+
+returns : tie.Need-returns
+returns c =
+    let e = c .before in
+    let o = e .before .before in
+    let f = set-unknown _ _ (o .of-set .ensures) (e .enum-told .given .1) in
+    (c .first-of-three .ensures ∙ ap (λ (b : Bool). firstFailing (checksOf (o .before .args .n) (o .before .args .room) (o .before .args .coefficients * o .before .args .n) b [])) (sym f), fails-out _ _ _ _ (c .first-of-three .ensures))
+
+first-of-three-requires-2 : tie.Need-first-of-three-requires-2
+first-of-three-requires-2 c κs = search needs
+
+returns-2 : tie.Need-returns-2
+returns-2 c = (found (c .before), c .if1 .taken)
+
+returns-3 : tie.Need-returns-3
+returns-3 c =
+    let p = c .before .before .before in
+    (sym (c .if1 .left) ∙ found (c .before), sym (set-params _ _ (p .before .before .of-set .ensures) (p .p .given .1)))
+
+pub admit-spec : {M : Type 1} → statement M
+admit-spec =
+    tie.close
+    (tie.spec
+    of-set-requires
+    enum-known-p
+    enum-told
+    first-of-three-requires
+    returns
+    first-of-three-requires-2
+    returns-2
+    returns-3)
