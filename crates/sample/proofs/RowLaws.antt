@@ -5,7 +5,8 @@ use Prim.Native.Nat.{ℕ, _+_, _-_, _*_, _≤_, _<_}
 use native.Mathlib.Nat.{suc-mul, mul-le-mul-right}
 use native.Mathlib.Omega.{arith}
 use lib.ListN.{length, take, drop, length-append, length-drop, take-append-drop}
-use lib.Seq.{length-take-le, take-take, take-at, drop-at, drop-drop}
+use lib.Seq.{length-take-le, take-take, take-at, drop-at}
+use borrow.Rule.Slice.PartMut.{post-is, mid-len}
 use Rattle.params.specs.declared.Params.{Params}
 use Rattle.tape.specs.declared.Cursor.{Cursor}
 use Rattle.tape.specs.Tape.{Ran, ended, ran, start}
@@ -47,17 +48,13 @@ module _ (a n : ℕ) (xs ps ys : List ℕ) (begins : take (a + n) xs ≡ ps ++ y
 
 -- n words are lent
 pub lent-length : (place n : ℕ) (out : List ℕ) → place + n ≤ length out → length (take (place + n - place) (drop place out)) ≡ n
-lent-length place n out h =
-    let e : place + n - place ≡ n = omega arith in
-    let f : n ≤ length (drop place out) = omega (arith, length-drop place out) in
-    rw e (length-take-le n (drop place out) f)
+lent-length place n out h = mid-len place (place + n) out h ∙ omega arith
 
--- the lent words put back are the words that fill
+-- put back, they are the words that fill
 pub filled-back : (place n : ℕ) (ys out : List ℕ) → length ys ≡ n → take place out ++ (ys ++ drop (place + n - place) (drop place out)) ≡ filled place ys out
 unfolding filled
 filled-back place n ys out e =
-    let f : place + n - place ≡ n = omega arith in
-    ap (λ (l : List ℕ). take place out ++ (ys ++ l)) (ap (λ (k : ℕ). drop k (drop place out)) f ∙ drop-drop n place out ∙ ap (λ (k : ℕ). drop (place + k) out) (sym e))
+    ap (λ (l : List ℕ). take place out ++ (ys ++ l)) (post-is place (place + n) out (omega arith) ∙ ap (λ (k : ℕ). drop (place + k) out) (sym e))
 
 -- the coefficients before c stand in their rows, of a polynomial that began as x: what is left to do gives the same as the whole
 pub record Filling (p : Params) (n : ℕ) (tape : List ℕ) (x : Ran (List ℕ)) (c : ℕ) (out : List ℕ) (cursor : Cursor) : Type 0 where

@@ -45,10 +45,20 @@ fn shorter<'a>(list: &List<'a>, width: u32) -> [List<'a>; 2] {
     [List { shares: u, draws: draws_of_u }, List { shares: z, draws: draws_of_z }]
 }
 
+/// The draws of the conversion from Boolean.
+pub fn conversion_draws(n: usize) -> usize {
+    3 * (1 << (n - 1)) - n - 2
+}
+
+/// The smallest number of bits with room for n values.
+pub fn alpha(n: usize) -> u32 {
+    n.next_power_of_two().trailing_zeros()
+}
+
 /// All lists of two shares, those of U before those of Z, each as its exclusive or. All draws are taken first; none is left.
 fn leaves(shares: &[u64], width: u32, tape: &mut Tape) -> Option<Vec<u64>> {
     let n = shares.len();
-    let draws = tape.draws(3 * (1 << (n - 1)) - n - 2, 1 << width)?;
+    let draws = tape.draws(conversion_draws(n), 1 << width)?;
     let mut lists = vec![List { shares: [shares, &[0]].concat(), draws: &draws }];
     for _ in 1..n {
         lists = lists.iter().flat_map(|list| shorter(list, width)).collect();
@@ -73,12 +83,11 @@ pub fn sum_of_boolean(shares: &[u64], width: u32, tape: &mut Tape) -> Option<Vec
 /// The sum of the words is too large by a multiple of 2^wider. The shift gives the factor, and the multiple is taken away modulo
 /// q. The tops stay far below the shift's modulus.
 pub fn sum_mod_q(shares: &[u64], width: u32, tape: &mut Tape) -> Option<Vec<u64>> {
-    let n = shares.len() as u64;
-    let alpha = n.next_power_of_two().trailing_zeros();
+    let alpha = alpha(shares.len());
     let wider = width + alpha;
     let words = sum_of_boolean(shares, wider, tape)?;
     let mut tops: Vec<u64> = words.iter().map(|x| x >> width).collect();
-    tops[0] += n - 1;
+    tops[0] += shares.len() as u64 - 1;
     let over = shift_by(&tops, Q << alpha, alpha, tape)?;
     let less = |x: u64, e: u64| (i128::from(x) - (i128::from(e) << wider)).rem_euclid(i128::from(Q)) as u64;
     let residues: Vec<u64> = words.iter().zip(over).map(|(&x, e)| less(x, e)).collect();

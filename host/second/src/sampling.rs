@@ -1,6 +1,6 @@
 //! Sampling of document 01, with its closing refresh. All draws are taken before any step is made.
 
-use crate::conversions::{sum_mod_q, Q};
+use crate::conversions::{alpha, conversion_draws, sum_mod_q, Q};
 use crate::steps::{refresh_sum, value};
 use crate::tape::Tape;
 
@@ -25,8 +25,8 @@ pub fn set(number: u32) -> Option<Set> {
 /// shift, and of the closing refresh.
 fn limits(set: Set, n: usize) -> Vec<u64> {
     let d = n - 1;
-    let alpha = n.next_power_of_two().trailing_zeros();
-    let mut runs = vec![(n, 1 << set.mu), (3 * (1 << d) - n - 2, 1 << (set.mu + alpha))];
+    let alpha = alpha(n);
+    let mut runs = vec![(n, 1 << set.mu), (conversion_draws(n), 1 << (set.mu + alpha))];
     runs.extend((1..=alpha).rev().map(|left| (d * d, Q << left)));
     runs.push((d, Q));
     let limits: Vec<u64> = runs.iter().flat_map(|&(count, limit)| vec![limit; count]).collect();
