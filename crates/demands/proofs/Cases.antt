@@ -24,7 +24,7 @@ use Rattle.gate.specs.Sampler.{samples}
 use Rattle.sample.specs.Sampling.{lowered, coefficient}
 use Rattle.gadgets.specs.Shift.{shiftRange, shiftGadget, toBooleanGadget}
 use Rattle.gadgets.specs.Convert.{toArithmeticGadget}
-use Rattle.gadgets.specs.Sample.{sampler}
+use Rattle.samplers.specs.Samplers.{sampler}
 use Rattle.demands.specs.Cases.{Cases}
 
 pub cases : Cases

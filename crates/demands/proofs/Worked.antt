@@ -23,7 +23,7 @@ use Rattle.gate.specs.Sampler.{samples}
 use Rattle.sample.specs.Sampling.{lowered, coefficient, filled, row, polynomial}
 use Rattle.gadgets.specs.Shift.{shiftRange, shiftGadget, toBooleanGadget}
 use Rattle.gadgets.specs.Convert.{toArithmeticGadget, toModQGadget}
-use Rattle.gadgets.specs.Sample.{sampler, polynomialSampler}
+use Rattle.samplers.specs.Samplers.{sampler, polynomialSampler}
 use Rattle.gadgets.specs.Refresh.{refreshGadget, booleanGadget}
 use Rattle.demands.specs.Worked.{Worked}
 

@@ -10,7 +10,7 @@ use Rattle.gate.specs.Gadget.{tells}
 use Rattle.gate.specs.Sampler.{samples}
 use Rattle.gadgets.specs.Shift.{shiftGadget, toBooleanGadget}
 use Rattle.gadgets.specs.Convert.{toArithmeticGadget}
-use Rattle.gadgets.specs.Sample.{sampler}
+use Rattle.samplers.specs.Samplers.{sampler}
 
 -- a call that succeeds with two shares
 abbrev shares : ℕ → ℕ → ℕ → Told

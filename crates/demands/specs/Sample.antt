@@ -5,7 +5,7 @@ use Rattle.params.specs.Sets.{Known, paramsOf}
 use Rattle.tape.specs.Tape.{start}
 use Rattle.sample.specs.Sampling.{coefficientPlan, polynomialPlan}
 use Rattle.sample.specs.Masks.{Mask, Masks}
-use Rattle.gadgets.specs.Sample.{sampler, polynomialSampler}
+use Rattle.samplers.specs.Samplers.{sampler, polynomialSampler}
 use Rattle.demands.specs.SamplerClaim.{SamplerClaim}
 
 -- one coefficient of a mask

@@ -1,2 +1,1 @@
 pub mod RangeLaws
-pub mod SamplerLaws

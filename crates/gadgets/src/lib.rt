@@ -2,7 +2,6 @@
 // polynomial sampler, which sets it to zeros.
 mod conversions;
 mod refreshes;
-mod samplers;
 mod shifts;
 
 pub use conversions::to_arithmetic;

@@ -6,8 +6,8 @@ use Rattle.gate.specs.Told.{refusal}
 use Rattle.gate.proofs.GadgetLaws.{told-ended, told-ran}
 use Rattle.sample.specs.declared.Written.{Written}
 use Rattle.sample.specs.Answers.{writtenStandsFor}
-use Rattle.gadgets.proofs.samplers.fill.Statement.{statement}
-use Rattle.gadgets.proofs.samplers.fill.Tie as tie
+use Rattle.samplers.proofs.fill.Statement.{statement}
+use Rattle.samplers.proofs.fill.Tie as tie
 
 polynomial-requires : tie.Need-polynomial-requires
 polynomial-requires c κs = search needs

@@ -7,10 +7,10 @@ use Rattle.tape.specs.Tape.{start}
 use Rattle.draws.specs.Draws.{run}
 use Rattle.gate.proofs.GadgetLaws.{sampler-refused, sampler-ran}
 use Rattle.sample.specs.Sampling.{polynomial}
-use Rattle.gadgets.specs.Sample.{polynomialSampler}
-use Rattle.gadgets.proofs.SamplerLaws.{not-admitted, Good, good}
-use Rattle.gadgets.proofs.samplers.sample_polynomial.Statement.{statement}
-use Rattle.gadgets.proofs.samplers.sample_polynomial.Tie as tie
+use Rattle.samplers.specs.Samplers.{polynomialSampler}
+use Rattle.samplers.proofs.AdmitLaws.{not-admitted, Good, good}
+use Rattle.samplers.proofs.sample_polynomial.Statement.{statement}
+use Rattle.samplers.proofs.sample_polynomial.Tie as tie
 
 -- no check failed
 admitted : (c : tie.After-p) →

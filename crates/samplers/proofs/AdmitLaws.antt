@@ -8,9 +8,9 @@ use Rattle.params.specs.Laws.{Laws}
 use Rattle.params.proofs.SetLaws.{set-laws, known-so}
 use Rattle.gate.specs.Checks.{firstFailing, checksOf}
 use Rattle.gate.proofs.CheckLaws.{AllPassed, all-checked}
-use Rattle.gadgets.specs.declared.samplers.Admitted.{Admitted}
-use Rattle.gadgets.specs.declared.samplers.Admitted.the-variants.{Set, Refused}
-use Rattle.gadgets.specs.Answers.{Admits}
+use Rattle.samplers.specs.declared.Admitted.{Admitted}
+use Rattle.samplers.specs.declared.Admitted.the-variants.{Set, Refused}
+use Rattle.samplers.specs.Answers.{Admits}
 
 module _ (n coefficients room set : ℕ) (r : Admitted) (a : Admits r n coefficients room set) where
   pub not-admitted : {k : ℕ} → r ≡ Refused k → (k ≡ firstFailing (checksOf n room (coefficients * n) (known set) [])) × ¬ (k ≡ 0)

@@ -7,8 +7,8 @@ use Rattle.params.specs.Sets.{known}
 use Rattle.params.proofs.SetLaws.{set-known, set-params, set-unknown}
 use Rattle.gate.specs.Checks.{firstFailing, checksOf}
 use Rattle.gate.proofs.CheckLaws.{fails-out}
-use Rattle.gadgets.proofs.samplers.admit.Statement.{statement}
-use Rattle.gadgets.proofs.samplers.admit.Tie as tie
+use Rattle.samplers.proofs.admit.Statement.{statement}
+use Rattle.samplers.proofs.admit.Tie as tie
 
 -- the set is known, and so its range was found
 found : (c : tie.After-first-of-three2) →

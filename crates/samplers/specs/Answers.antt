@@ -4,8 +4,8 @@ use mathlib.Core.List.{[]}
 use Prim.Native.Nat.{ℕ, _*_}
 use Rattle.params.specs.Sets.{known, paramsOf}
 use Rattle.gate.specs.Checks.{firstFailing, checksOf}
-use Rattle.gadgets.specs.declared.samplers.Admitted.{Admitted}
-use Rattle.gadgets.specs.declared.samplers.Admitted.the-variants.{Set, Refused}
+use Rattle.samplers.specs.declared.Admitted.{Admitted}
+use Rattle.samplers.specs.declared.Admitted.the-variants.{Set, Refused}
 
 -- the number of the first check that fails, which is not 0, or, where none fails, the constants of the set
 abbrev pub Admits : Admitted → (n coefficients room set : ℕ) → Type 0

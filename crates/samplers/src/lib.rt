@@ -1,4 +1,4 @@
-// Sampling of a mask in shares. The share count n is stated, since there are no shares to count.
+// The public samplers of a mask in shares. The share count n is stated, since there are no shares to count.
 use gate::Answer;
 use gate::clear;
 use gate::finish;
@@ -19,8 +19,8 @@ ghost use Rattle.draws.specs.Draws.{run};
 ghost use Rattle.sample.specs.Sampling.{polynomial};
 ghost use Rattle.gate.specs.Told.{silentRan, ranTold, standsFor};
 ghost use Rattle.gate.specs.Sampler.{samples};
-ghost use Rattle.gadgets.specs.Sample.{sampler, polynomialSampler};
-ghost use Rattle.gadgets.specs.Answers.{Admits};
+ghost use Rattle.samplers.specs.Samplers.{sampler, polynomialSampler};
+ghost use Rattle.samplers.specs.Answers.{Admits};
 
 // The set that is sampled for, or the number of the first check that fails.
 enum Admitted {

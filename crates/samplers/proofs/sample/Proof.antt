@@ -12,10 +12,10 @@ use Rattle.draws.specs.Draws.{run}
 use Rattle.shares.specs.Arrays.{shared}
 use Rattle.gate.proofs.GadgetLaws.{sampler-refused, sampler-ran}
 use Rattle.sample.specs.Sampling.{coefficient}
-use Rattle.gadgets.specs.Sample.{sampler}
-use Rattle.gadgets.proofs.SamplerLaws.{not-admitted, Good, good}
-use Rattle.gadgets.proofs.samplers.sample.Statement.{statement}
-use Rattle.gadgets.proofs.samplers.sample.Tie as tie
+use Rattle.samplers.specs.Samplers.{sampler}
+use Rattle.samplers.proofs.AdmitLaws.{not-admitted, Good, good}
+use Rattle.samplers.proofs.sample.Statement.{statement}
+use Rattle.samplers.proofs.sample.Tie as tie
 
 -- no check failed
 admitted : (c : tie.After-p) →

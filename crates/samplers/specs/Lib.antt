@@ -1,0 +1,2 @@
+pub mod Samplers
+pub mod Answers
