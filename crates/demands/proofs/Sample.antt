@@ -34,6 +34,7 @@ unfolding sampler
 sampler-steps set =
     record {
       range = set-range set;
+      count = refl;
       short = λ out. refl;
       planned = λ k n least most out e. coefficient-gives (set-laws k) n (omega arith) most .plan;
       fills = λ k n least most tape out e r. coefficient-masks (set-laws k) n (omega arith) most tape r;
@@ -44,6 +45,7 @@ unfolding polynomialSampler
 polynomial-steps set =
     record {
       range = set-range set;
+      count = refl;
       short = λ out. refl;
       planned = λ k n least most out e. polynomial-gives (set-laws k) n (omega arith) most out e .plan;
       fills = λ k n least most tape out e r. polynomial-masks (set-laws k) n (omega arith) most tape out e r;

@@ -22,11 +22,12 @@ use Rattle.demands.proofs.Answers.{Answers, Tested, first-count, first-
 pub record SamplerSteps (c : SamplerClaim) : Type 0 where
   -- the check of the parameters says what is claimed
   pub range : Tested (c .sampler .inRange) (c .InRange)
-  -- and so does what a short tape leaves
+  -- and so do the room that is asked for, and what a short tape leaves
+  pub count : c .sampler .coefficients ≡ c .coefficients
   pub short : (out : List ℕ) → c .sampler .short out ≡ c .short out
   -- the steps make the claimed draws, and fill the output slice with what is claimed
-  pub planned : c .InRange → (n : ℕ) → 2 ≤ n → n ≤ 8 → (out : List ℕ) → length out ≡ c .sampler .coefficients * n → Plan (c .sampler .steps n out) (c .draws n)
-  pub fills : c .InRange → (n : ℕ) → 2 ≤ n → n ≤ 8 → (tape out : List ℕ) → length out ≡ c .sampler .coefficients * n → {after : List ℕ} {p : Cursor} →
+  pub planned : c .InRange → (n : ℕ) → 2 ≤ n → n ≤ 8 → (out : List ℕ) → length out ≡ c .coefficients * n → Plan (c .sampler .steps n out) (c .draws n)
+  pub fills : c .InRange → (n : ℕ) → 2 ≤ n → n ≤ 8 → (tape out : List ℕ) → length out ≡ c .coefficients * n → {after : List ℕ} {p : Cursor} →
       run (c .sampler .steps n out) tape start ≡ ran after p → c .Fills n tape p after
 
 -- so a call is as claimed
@@ -34,18 +35,19 @@ pub on-stated : {c : SamplerClaim} → SamplerSteps c → (n : ℕ) (out : List 
 unfolding checkNumber silentSteps firstFailing run
 on-stated {c} s n out =
     let words : ℕ = c .sampler .coefficients * n in
+    let asked : words ≡ c .coefficients * n = ap (_* n) (s .count) in
     record {
       bad-count = first-count (s .range) n (length out) words [];
-      bad-length = first-length (s .range) n (length out) words [];
-      bad-parameter = first-parameter (s .range) n (length out) words [];
+      bad-length = λ h r. first-length (s .range) n (length out) words [] h (λ e. r (e ∙ asked));
+      bad-parameter = λ h r. first-parameter (s .range) n (length out) words [] h (r ∙ sym asked);
       bad-share = λ h r i b. absurd (b tt);
       most = number-most n (length out) words (c .sampler .inRange) [] 4 (omega arith) (omega arith);
       out = refl;
       short = s .short out;
-      passes = λ v. sym (first-later (s .range) n (length out) words [] (v .count) (v .room) (v .range));
+      passes = λ v. sym (first-later (s .range) n (length out) words [] (v .count) (v .room ∙ sym asked) (v .range));
       valid = λ e.
           let p = all-checked n (length out) words (c .sampler .inRange) [] e in
-          record { count = (p .least, p .most); room = p .fits; range = s .range .in-range (p .range); below = tt };
+          record { count = (p .least, p .most); room = p .fits ∙ asked; range = s .range .in-range (p .range); below = tt };
       planned = λ v. plan-map silent (s .planned (v .range) n (v .count .0) (v .count .1) out (v .room));
       right = λ v tape {o} {p} e.
           let (xs, t, x, y) = bind-parts (c .sampler .steps n out) (λ ys. done (silent ys)) tape start e in

@@ -14,6 +14,7 @@ samplerClaim set =
     record {
       sampler = sampler set;
       InRange = Known set;
+      coefficients = 1;
       draws = coefficientPlan (paramsOf set);
       Fills = λ n tape p out. Mask (paramsOf set) n tape start p out;
       short = λ out. out;
@@ -25,6 +26,7 @@ polynomialClaim set =
     record {
       sampler = polynomialSampler set;
       InRange = Known set;
+      coefficients = 256;
       draws = polynomialPlan (paramsOf set);
       Fills = λ n tape p out. Masks (paramsOf set) n tape p out;
       short = λ out. replicate (length out) 0;

@@ -11,6 +11,8 @@ pub record SamplerClaim : Type 1 where
   pub sampler : Sampler
   -- the parameters are in their ranges
   pub InRange : Type 0
+  -- how many coefficients it fills, of n words each
+  pub coefficients : ℕ
   -- what it draws below, in turn, for n shares
   pub draws : ℕ → List ℕ
   -- what it fills the output slice with, for n shares, from the words of the tape up to a place
@@ -26,7 +28,7 @@ onStated c n out =
       out = out;
       short = c .short out;
       Count = Counted n;
-      Room = length out ≡ c .sampler .coefficients * n;
+      Room = length out ≡ c .coefficients * n;
       InRange = c .InRange;
       Below = Unit {0};
       plan = c .draws n;
