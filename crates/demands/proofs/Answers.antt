@@ -23,6 +23,7 @@ pub record Answers (c : CallClaim) : Type 0 where
   pub bad-share : c .Count → c .Room → c .InRange → ¬ (c .Below) → 4 ≡ checkNumber (c .call)
   pub most : checkNumber (c .call) ≤ 4
   -- and a refusal leaves what is claimed
+  pub has-fields : c .call .fields ≡ c .fields
   pub out : c .call .out ≡ c .out
   pub short : c .call .short ≡ c .short
   pub passes : Valid c → checkNumber (c .call) ≡ 0
@@ -30,7 +31,7 @@ pub record Answers (c : CallClaim) : Type 0 where
   -- the program makes the claimed draws, and its outcome is as claimed
   pub planned : Valid c → Plan (c .call .program) (c .plan)
   pub right : Valid c → (tape : List ℕ) {o : Outcome} {p : Cursor} → run (c .call .program) tape start ≡ ran o p → c .Right tape p o
-  pub fields : (tape : List ℕ) (p : Cursor) (o : Outcome) → c .Right tape p o → length (o .opened) ≡ c .call .fields
+  pub fields : (tape : List ℕ) (p : Cursor) (o : Outcome) → c .Right tape p o → length (o .opened) ≡ c .fields
 
 -- a check of parameters, and what it says of them
 pub record Tested (inRange : Bool) (InRange : Type 0) : Type 0 where

@@ -22,9 +22,9 @@ use Rattle.gate.specs.Told.{refusal, ranTold, checkNumber, told}
 use Rattle.gate.specs.Gadget.{silentSteps, closed, tells}
 use Rattle.gate.specs.Sampler.{samples}
 use Rattle.sample.specs.Sampling.{lowered, coefficient}
+use Rattle.samplers.specs.Samplers.{sampler}
 use Rattle.gadgets.specs.Shift.{shiftRange, shiftGadget, toBooleanGadget}
 use Rattle.gadgets.specs.Convert.{toArithmeticGadget}
-use Rattle.samplers.specs.Samplers.{sampler}
 use Rattle.demands.specs.Cases.{Cases}
 
 pub cases : Cases

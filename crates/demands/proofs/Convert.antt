@@ -37,6 +37,7 @@ unfolding toArithmeticGadget silentSteps
 to-arithmetic-steps k =
     record {
       range = width-range k;
+      has-fields = refl;
       opens-fields = λ x. refl;
       give = λ r n least most xs w.
           gives-map _ silent (to-arithmetic-keeps k n (xorAll xs) xs (omega (arith, r .1)) (omega arith) (record { words = w; is = refl }))
@@ -48,6 +49,7 @@ unfolding toModQGadget silentSteps xorAll
 to-mod-q-steps μ =
     record {
       range = number-range 20 μ q (omega arith) (λ h. omega arith);
+      has-fields = refl;
       opens-fields = λ x. refl;
       give = λ r n least most xs w.
           let below : xorAll xs < 2 ^ μ = fold-below (xors μ) xs w in

@@ -27,6 +27,7 @@ refresh-steps M =
             positive = λ r. omega (arith, r .0);
             word = λ r. omega (arith, r .1);
           };
+      has-fields = refl;
       opens-fields = λ x. refl;
       give = λ r n least most xs w. gives-done (record { opened = refl; words = w; recombined = refl });
     }
@@ -36,6 +37,7 @@ unfolding booleanGadget silentSteps bind
 boolean-steps k =
     record {
       range = width-range k;
+      has-fields = refl;
       opens-fields = λ x. refl;
       give = λ r n least most xs w. gives-done (record { opened = refl; words = w; recombined = refl });
     }

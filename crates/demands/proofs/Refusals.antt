@@ -1,5 +1,5 @@
 -- Demand 1, of every call.
-use mathlib.Core.Path.{_≡_, refl, sym, ap, _∙_}
+use mathlib.Core.Path.{_≡_, refl, sym, ap, ap₂, _∙_}
 use mathlib.Core.List.{List}
 use Prim.Native.Nat.{ℕ}
 use native.Mathlib.Omega.{arith}
@@ -15,11 +15,11 @@ use Rattle.demands.proofs.Runs.{tells-success, tells-short, Ending, suc
 module _ {c : CallClaim} (s : Answers c) (tape : List ℕ) where
   -- a check that fails answers, with the slice unchanged
   answers : (k : ℕ) → k ≡ checkNumber (c .call) → ¬ (k ≡ 0) → Refused c tape k (c .out)
-  answers k e n = sym (by-check (c .call) tape e n refl) ∙ ap (refusal (c .call .fields) k) (s .out)
+  answers k e n = sym (by-check (c .call) tape e n refl) ∙ ap₂ (λ (f : ℕ) (o : List ℕ). refusal f k o) (s .has-fields) (s .out)
 
   -- and so does the end of the tape
   stopped : told (c .call) tape ≡ refusal (c .call .fields) 5 (c .call .short) → Refused c tape 5 (c .short)
-  stopped e = e ∙ ap (refusal (c .call .fields) 5) (s .short)
+  stopped e = e ∙ ap₂ (λ (f : ℕ) (o : List ℕ). refusal f 5 o) (s .has-fields) (s .short)
 
   pub refusals : Refusals c tape
   unfolding refusal
@@ -45,4 +45,4 @@ module _ {c : CallClaim} (s : Answers c) (tape : List ℕ) where
       kept n m (succeeds x) = absurd (n (ap (λ (t : Told). t .number) (x .told-so)))
       kept n m (stops f) = absurd (m (ap (λ (t : Told). t .number) f))
       kept n m (refuses k f h e) =
-          f ∙ ap (refusal (c .call .fields) k) (s .out) ∙ ap (λ (j : ℕ). refusal (c .call .fields) j (c .out)) (sym (ap (λ (t : Told). t .number) f))
+          f ∙ ap₂ (λ (x : ℕ) (o : List ℕ). refusal x k o) (s .has-fields) (s .out) ∙ ap (λ (j : ℕ). refusal (c .fields) j (c .out)) (sym (ap (λ (t : Told). t .number) f))

@@ -1,20 +1,21 @@
 -- Both samplers meet demands 1 and 2, their answers are unique, and how many draws they make.
 use mathlib.Core.Path.{_≡_, refl, ap₂, _∙_}
 use mathlib.Core.List.{List, [], _++_}
-use Prim.Native.Nat.{ℕ, zero, suc, _+_, _-_, _*_, _^_, _<_}
+use Prim.Native.Nat.{ℕ, zero, suc, _+_, _-_, _*_, _^_, _≤_, _<_}
 use native.Mathlib.Omega.{arith}
 use lib.ListN.{length, length-append, length-replicate}
 use Rattle.numbers.specs.Bits.{alpha}
 use Rattle.numbers.specs.Lists.{over}
 use Rattle.params.specs.Sets.{Known, known, paramsOf}
+use Rattle.params.proofs.RoomLaws.{alpha-most, mask-most}
 use Rattle.params.proofs.SetLaws.{set-laws, known-yes, known-so}
 use Rattle.gate.specs.Told.{standsFor}
 use Rattle.gate.specs.Sampler.{samples}
 use Rattle.sample.specs.Sampling.{maskPlan, coefficientPlan, polynomialPlan}
 use Rattle.sample.proofs.ValueLaws.{coefficient-gives, polynomial-gives}
 use Rattle.sample.proofs.MaskLaws.{coefficient-masks, polynomial-masks}
-use Rattle.gadgets.specs.Convert.{toModQGadget}
 use Rattle.samplers.specs.Samplers.{sampler, polynomialSampler}
+use Rattle.gadgets.specs.Convert.{toModQGadget}
 use Rattle.demands.specs.Claim.{plan}
 use Rattle.demands.specs.Convert.{toModQClaim}
 use Rattle.demands.specs.Demands.{SamplerDemands}
@@ -29,6 +30,10 @@ use Rattle.demands.proofs.Unique.{unique-told}
 set-range : (set : ℕ) → Tested (known set) (Known set)
 set-range set = record { in-range = known-so set; range-in = known-yes }
 
+-- n up to 8 leaves room
+room : {set : ℕ} → Known set → (n : ℕ) → n ≤ 8 → paramsOf set .mu + alpha n ≤ 32
+room k n most = omega (arith, mask-most (set-laws k), alpha-most n most)
+
 sampler-steps : (set : ℕ) → SamplerSteps (samplerClaim set)
 unfolding sampler
 sampler-steps set =
@@ -36,8 +41,8 @@ sampler-steps set =
       range = set-range set;
       count = refl;
       short = λ out. refl;
-      planned = λ k n least most out e. coefficient-gives (set-laws k) n (omega arith) most .plan;
-      fills = λ k n least most tape out e r. coefficient-masks (set-laws k) n (omega arith) most tape r;
+      planned = λ k n least most out e. coefficient-gives (set-laws k) n (omega arith) (room k n most) .plan;
+      fills = λ k n least most tape out e r. coefficient-masks (set-laws k) n (omega arith) (room k n most) tape r;
     }
 
 polynomial-steps : (set : ℕ) → SamplerSteps (polynomialClaim set)
@@ -47,8 +52,8 @@ polynomial-steps set =
       range = set-range set;
       count = refl;
       short = λ out. refl;
-      planned = λ k n least most out e. polynomial-gives (set-laws k) n (omega arith) most out e .plan;
-      fills = λ k n least most tape out e r. polynomial-masks (set-laws k) n (omega arith) most tape out e r;
+      planned = λ k n least most out e. polynomial-gives (set-laws k) n (omega arith) (room k n most) out e .plan;
+      fills = λ k n least most tape out e r. polynomial-masks (set-laws k) n (omega arith) (room k n most) tape out e r;
     }
 
 pub sample-demands : (set : ℕ) → SamplerDemands (samplerClaim set)

@@ -42,6 +42,7 @@ on-stated {c} s n out =
       bad-parameter = λ h r. first-parameter (s .range) n (length out) words [] h (r ∙ sym asked);
       bad-share = λ h r i b. absurd (b tt);
       most = number-most n (length out) words (c .sampler .inRange) [] 4 (omega arith) (omega arith);
+      has-fields = refl;
       out = refl;
       short = s .short out;
       passes = λ v. sym (first-later (s .range) n (length out) words [] (v .count) (v .room ∙ sym asked) (v .range));

@@ -37,6 +37,7 @@ shift-steps M t =
             positive = λ r. omega (arith, r .3);
             word = λ r. omega (arith, r .0, div-le-self M (2 ^ t));
           };
+      has-fields = refl;
       opens-fields = λ x. refl;
       give = λ r n least most xs w.
           gives-map _ silent
@@ -50,6 +51,7 @@ unfolding toBooleanGadget silentSteps
 to-boolean-steps k =
     record {
       range = width-range k;
+      has-fields = refl;
       opens-fields = λ x. refl;
       give = λ r n least most xs w.
           gives-map _ silent (to-boolean-keeps k n (sum xs % 2 ^ k) xs (r .0) (omega arith) (record { words = w; is = refl }))

@@ -24,7 +24,8 @@ pub record Steps (c : Claim) : Type 0 where
   -- the check of the parameters says what is claimed, and the output's modulus, or 2 to its width, is a word's
   pub range : Range (c .gadget .inRange) (c .InRange) (bound (c .gadget .output))
   -- as many numbers are opened as a refusal has zeros
-  pub opens-fields : (x : ℕ) → length (c .opens x) ≡ c .gadget .fields
+  pub has-fields : c .gadget .fields ≡ c .fields
+  pub opens-fields : (x : ℕ) → length (c .opens x) ≡ c .fields
   -- the steps make the claimed draws, and whatever these give, the outcome is as claimed
   pub give : c .InRange → (n : ℕ) → 2 ≤ n → n ≤ 8 → (xs : List ℕ) → Words n (bound (c .gadget .input)) xs →
       Gives (Claimed c n xs) (c .gadget .steps xs) (c .draws n)
@@ -57,6 +58,7 @@ on-shares {c} s shares out =
       bad-parameter = first-parameter (s .range .tested) n (length out) n more;
       bad-share = λ h r i b. below-fails M shares (not-so _ (λ e. b (below-words M shares e))) ∙ first-later (s .range .tested) n (length out) n more h r i;
       most = number-most n (length out) n (c .gadget .inRange) more 4 (omega arith) (below-most M shares);
+      has-fields = s .has-fields;
       out = refl;
       short = refl;
       passes = λ v. sym (below-passes M shares (words-below (v .below)) ∙ first-later (s .range .tested) n (length out) n more (v .count) (v .room) (v .range));

@@ -21,9 +21,9 @@ use Rattle.gate.specs.Told.{refusal, ranTold, checkNumber, told}
 use Rattle.gate.specs.Gadget.{silentSteps, closed, tells}
 use Rattle.gate.specs.Sampler.{samples}
 use Rattle.sample.specs.Sampling.{lowered, coefficient, filled, row, polynomial}
+use Rattle.samplers.specs.Samplers.{sampler, polynomialSampler}
 use Rattle.gadgets.specs.Shift.{shiftRange, shiftGadget, toBooleanGadget}
 use Rattle.gadgets.specs.Convert.{toArithmeticGadget, toModQGadget}
-use Rattle.samplers.specs.Samplers.{sampler, polynomialSampler}
 use Rattle.gadgets.specs.Refresh.{refreshGadget, booleanGadget}
 use Rattle.demands.specs.Worked.{Worked}
 

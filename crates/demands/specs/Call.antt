@@ -6,6 +6,8 @@ use Rattle.gate.specs.Told.{Outcome, Call}
 
 pub record CallClaim : Type 1 where
   pub call : Call
+  -- how many fields it has beside the number and the words used
+  pub fields : ℕ
   -- the output slice that it is lent, and what a short tape leaves in it
   pub out : List ℕ
   pub short : List ℕ

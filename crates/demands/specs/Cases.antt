@@ -8,9 +8,9 @@ use Rattle.convert.specs.ToArithmetic.{psi}
 use Rattle.gate.specs.Told.{Told}
 use Rattle.gate.specs.Gadget.{tells}
 use Rattle.gate.specs.Sampler.{samples}
+use Rattle.samplers.specs.Samplers.{sampler}
 use Rattle.gadgets.specs.Shift.{shiftGadget, toBooleanGadget}
 use Rattle.gadgets.specs.Convert.{toArithmeticGadget}
-use Rattle.samplers.specs.Samplers.{sampler}
 
 -- a call that succeeds with two shares
 abbrev shares : ℕ → ℕ → ℕ → Told

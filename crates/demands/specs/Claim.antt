@@ -16,14 +16,15 @@ pub record Claim : Type 1 where
   pub InRange : Type 0
   -- what its steps draw below, in turn, for n shares, before the closing refresh
   pub draws : ℕ → List ℕ
-  -- the numbers that it opens, by the value of its input
+  -- how many numbers it opens, and which, by the value of its input
+  pub fields : ℕ
   pub opens : ℕ → List ℕ
   -- what the value of its input and the value of its output are to each other: the plain function
   pub Plain : ℕ → ℕ → Type 0
 
 -- a gadget that opens nothing and keeps the value
 abbrev pub keeping : Gadget → Type 0 → (ℕ → List ℕ) → Claim
-keeping g InRange draws = record { gadget = g; InRange = InRange; draws = draws; opens = λ x. []; Plain = λ x y. y ≡ x }
+keeping g InRange draws = record { gadget = g; InRange = InRange; draws = draws; fields = 0; opens = λ x. []; Plain = λ x y. y ≡ x }
 
 -- an outcome of n shares, below the output's modulus or 2 to its width, that recombine to what the plain function says of the shares xs,
 -- with the numbers opened that it says
@@ -41,6 +42,7 @@ abbrev pub onShares : Claim → (shares out : List ℕ) → CallClaim
 onShares c shares out =
     record {
       call = call (c .gadget) shares out;
+      fields = c .fields;
       out = out;
       short = out;
       Count = Counted (length shares);

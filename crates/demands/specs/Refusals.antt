@@ -12,7 +12,7 @@ use Rattle.demands.specs.Call.{CallClaim, Valid}
 
 -- the call is refused with this number, 0 in every other field, and this in the output slice
 abbrev pub Refused : CallClaim → (tape : List ℕ) → ℕ → List ℕ → Type 0
-Refused c tape number left = told (c .call) tape ≡ refusal (c .call .fields) number left
+Refused c tape number left = told (c .call) tape ≡ refusal (c .fields) number left
 
 pub record Refusals (c : CallClaim) (tape : List ℕ) : Type 0 where
   pub bad-count : ¬ (c .Count) → Refused c tape 1 (c .out)

@@ -25,6 +25,7 @@ abbrev pub onStated : SamplerClaim → ℕ → (out : List ℕ) → CallClaim
 onStated c n out =
     record {
       call = samplerCall (c .sampler) n out;
+      fields = 0;
       out = out;
       short = c .short out;
       Count = Counted n;

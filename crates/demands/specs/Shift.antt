@@ -14,6 +14,7 @@ shiftClaim M t =
       gadget = shiftGadget M t;
       InRange = (M ≤ 4294967295) × ((1 ≤ t) × (t ≤ 31)) × (M % 2 ^ t ≡ 0) × (2 ≤ M / 2 ^ t);
       draws = λ n. shiftPlan (M / 2 ^ t) t n;
+      fields = 0;
       opens = λ x. [];
       Plain = λ x y. y ≡ x / 2 ^ t;
     }

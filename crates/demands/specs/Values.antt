@@ -17,7 +17,7 @@ pub record Correct (c : CallClaim) (tape : List ℕ) (t : Told) : Type 0 where
   pub place : Cursor
   pub right : c .Right tape place (record { opened = t .opened; shares = t .out })
   -- as many numbers are opened as a refusal has zeros
-  pub fields : length (t .opened) ≡ c .call .fields
+  pub fields : length (t .opened) ≡ c .fields
   -- words used are the words up to that place: the draws and the words skipped
   pub up-to : t .used ≡ place .at
   pub used : t .used ≡ length (c .plan) + skipped (c .plan) tape start

@@ -7,10 +7,10 @@ use lib.ListN.{replicate}
 use Rattle.numbers.specs.Lists.{over}
 use Rattle.gate.specs.Gadget.{tells}
 use Rattle.gate.specs.Sampler.{samples}
+use Rattle.samplers.specs.Samplers.{sampler, polynomialSampler}
 use Rattle.gadgets.specs.Refresh.{refreshGadget, booleanGadget}
 use Rattle.gadgets.specs.Shift.{shiftGadget, toBooleanGadget}
 use Rattle.gadgets.specs.Convert.{toArithmeticGadget, toModQGadget}
-use Rattle.samplers.specs.Samplers.{sampler, polynomialSampler}
 
 pub record Worked : Type 0 where
   -- of 12, 3, 6 the first word is skipped: 3 and 6 go into the first two shares and are taken from the third

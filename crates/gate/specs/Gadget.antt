@@ -29,7 +29,7 @@ silentSteps d = bind d (λ xs. done (silent xs))
 abbrev pub silentGadget : Bool → (input output : Sharing) → (List ℕ → Draws (List ℕ)) → Gadget
 silentGadget inRange input output steps = record { inRange = inRange; input = input; output = output; fields = 0; steps = λ xs. silentSteps (steps xs) }
 
--- every public gadget that returns shares ends with a closing refresh, in its output's modulus or width
+-- a gadget on shares ends with a closing refresh, in its output's modulus or width; a sampler's steps close each coefficient themselves
 unfoldable pub closed : Sharing → Draws Outcome → Draws Outcome
 closed s d = bind d (λ o. bind (refresh s (o .shares)) (λ zs. done (record { opened = o .opened; shares = zs })))
 

@@ -44,7 +44,7 @@ fn all_below(shares: &[u32], m: u32) -> bool
 }
 
 // The number of the first of the checks 1 to 3 that fails, or 0: the share count, the room for so many coefficients, the parameters.
-// Their words are counted only once n is known to be small.
+// The product of coefficients and n is formed only once n is known to be small.
 pub fn first_of_three(n: usize, coefficients: usize, room: usize, in_range: bool) -> u32
     requires { ⌜ coefficients ≤ 256 ⌝ }
     ensures { λ r. ⌜ r ≡ firstFailing (checksOf n room (coefficients * n) in_range []) ⌝ }

@@ -41,20 +41,13 @@ known-so s e = go (ℕ-discrete s 44) (ℕ-discrete s 65) (ℕ-discrete s 87)
 
 -- what the constructor's answer says of a number
 module _ (s : ℕ) (r : Choice) (told : choiceStandsFor r ≡ setOf s) where
-  has : {p : Params} → r ≡ Set p → setOf s ≡ some p
+  pub set-is : {p : Params} → r ≡ Set p → setOf s ≡ some p
   unfolding choiceStandsFor
-  has e = sym told ∙ ap choiceStandsFor e
+  set-is e = sym told ∙ ap choiceStandsFor e
 
   pub set-known : {p : Params} → r ≡ Set p → known s ≡ true
   unfolding known
-  set-known e = rw (has e)
-
-  pub set-params : {p : Params} → r ≡ Set p → paramsOf s ≡ p
-  unfolding paramsOf
-  set-params e = rw (has e)
-
-  pub set-laws-of : {p : Params} → r ≡ Set p → Laws p
-  set-laws-of e = subst Laws (set-params e) (set-laws (known-so s (set-known e)))
+  set-known e = rw (set-is e)
 
   pub set-unknown : r ≡ Unknown → known s ≡ false
   unfolding known choiceStandsFor

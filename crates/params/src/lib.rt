@@ -3,7 +3,7 @@ ghost use mathlib.Core.Path.{_≡_};
 ghost use Rattle.params.specs.Sets.{bounds, setOf};
 ghost use Rattle.params.specs.Answers.{choiceStandsFor};
 
-// Of one kind of coefficient: a size below the bound a is accepted, the reach b is how large it can be, and rho is the verdict's shift.
+// Of one kind of coefficient: a size below the bound a is accepted, up to the reach b widening keeps the value, and rho is the verdict's shift.
 pub struct Bounds {
     pub a: u32,
     pub b: u32,

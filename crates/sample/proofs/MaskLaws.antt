@@ -8,6 +8,7 @@ use lib.ListN.{length, take, drop}
 use lib.Seq.{length-take-le, take-all}
 use lib.IntN.{pos, _-ℤ_}
 use Rattle.numbers.specs.Modulo.{q, subMod}
+use Rattle.numbers.specs.Bits.{alpha}
 use Rattle.numbers.specs.Lists.{Words, xorAll}
 use Rattle.numbers.specs.Centred.{centred}
 use Rattle.numbers.proofs.WordsLaws.{words-none, words-append}
@@ -28,22 +29,22 @@ use Rattle.sample.specs.Masks.{Mask, Masks}
 use Rattle.sample.proofs.RowLaws.{row-within, filled-length, filled-upto, front-of, part-of}
 use Rattle.sample.proofs.ValueLaws.{drawn-below, masked-gives, coefficient-gives}
 
-module _ {p : Params} (l : Laws p) (n : ℕ) (least : 0 < n) (most : n ≤ 8) (tape : List ℕ) where
+module _ {p : Params} (l : Laws p) (n : ℕ) (least : 0 < n) (room : p .mu + alpha n ≤ 32) (tape : List ℕ) where
   pub coefficient-masks : {from to : Cursor} {ys : List ℕ} → run (coefficient p n) tape from ≡ ran ys to → Mask p n tape from to ys
   unfolding coefficient
   coefficient-masks {from} {to} {ys} e =
       let (xs, s, first, last) = bind-parts (drawAll (maskPlan p n)) (masked p) tape from e in
       let w : Words n (2 ^ p .mu) xs = fits-words n (2 ^ p .mu) xs (always-run (gives-all (maskPlan p n) .always) tape from first) in
-      let a : Shares (arithmetic q) n (subMod q (xorAll xs) (p .gamma1 - 1)) ys = always-run (masked-gives l n least most xs w .always) tape s last in
+      let a : Shares (arithmetic q) n (subMod q (xorAll xs) (p .gamma1 - 1)) ys = always-run (masked-gives l n least room xs w .always) tape s last in
       let x : ℕ = xorAll xs in
       let g : ℕ = p .gamma1 - 1 in
-      let small : x < 2 * p .gamma1 = drawn-below l n least most xs w in
+      let small : x < 2 * p .gamma1 = drawn-below l n least room xs w in
       let is : centred q (value (arithmetic q) ys) ≡ pos x -ℤ pos g =
       ap (centred q) (a .is) ∙ centred-sub q x g (omega (arith, mask-small l)) (omega (arith, mask-small l)) in
       record {
         steps = e;
         words = a .words;
-        used = words-used (coefficient-gives l n least most .plan) tape from e;
+        used = words-used (coefficient-gives l n least room .plan) tape from e;
         read = λ other same. run-reads (coefficient p n) from e same;
         drawn = xs;
         place = s;

@@ -6,12 +6,13 @@ use native.Mathlib.Nat.{mod-eq-of-lt}
 use native.Mathlib.Omega.{arith}
 use lib.ListN.{length}
 use Rattle.numbers.specs.Modulo.{q, subMod}
+use Rattle.numbers.specs.Bits.{alpha}
 use Rattle.numbers.specs.Lists.{Words, xorAll}
 use Rattle.numbers.proofs.GroupLaws.{xors}
 use Rattle.numbers.proofs.FoldLaws.{fold-below}
 use Rattle.params.specs.declared.Params.{Params}
 use Rattle.params.specs.Laws.{Laws}
-use Rattle.params.proofs.RoomLaws.{alpha-most, mask-most, mask-small}
+use Rattle.params.proofs.RoomLaws.{mask-small}
 use Rattle.draws.specs.Draws.{each}
 use Rattle.draws.proofs.Outcomes.{Gives}
 use Rattle.draws.proofs.PlanLaws.{gives-bind, gives-map, gives-rounds, gives-as, gives-all, fits-words}
@@ -25,7 +26,7 @@ use Rattle.switching.proofs.ValueLaws.{to-modulus-keeps}
 use Rattle.sample.specs.Sampling.{lowered, maskPlan, masked, coefficient, coefficientPlan, filled, row, polynomial, polynomialPlan}
 use Rattle.sample.proofs.RowLaws.{row-within, filled-length}
 
-module _ {p : Params} (l : Laws p) (n : ℕ) (least : 0 < n) (most : n ≤ 8) where
+module _ {p : Params} (l : Laws p) (n : ℕ) (least : 0 < n) (room : p .mu + alpha n ≤ 32) where
   -- the exclusive or of the words drawn is below 2γ1
   pub drawn-below : (xs : List ℕ) → Words n (2 ^ p .mu) xs → xorAll xs < 2 * p .gamma1
   unfolding xorAll
@@ -37,7 +38,7 @@ module _ {p : Params} (l : Laws p) (n : ℕ) (least : 0 < n) (most : n ≤ 8) wh
   masked-gives xs w =
       let small : xorAll xs % q ≡ xorAll xs = mod-eq-of-lt (omega (arith, drawn-below xs w, mask-small l)) in
       gives-bind (λ ys. refresh (arithmetic q) (lowered (p .gamma1) ys)) (refreshPlan (arithmetic q) n)
-      (to-modulus-keeps q (p .mu) n (xorAll xs) xs (omega arith) (omega (arith, mask-most l, alpha-most n most)) least (record { words = w; is = refl }))
+      (to-modulus-keeps q (p .mu) n (xorAll xs) xs (omega arith) room least (record { words = w; is = refl }))
       (λ ys a. refresh-keeps (arithmetic q) (omega arith) _ _ least
       (taken-value (arithmetic q) (omega arith) 0 (p .gamma1 - 1) (omega (arith, mask-small l)) least (record { words = a .words; is = a .is ∙ small })))
 

@@ -1,13 +1,24 @@
 -- What the answer of a sampler's checks stands for.
-use mathlib.Core.Path.{_≡_}
 use mathlib.Core.List.{[]}
+use mathlib.Core.Option.{Option, none, some}
 use Prim.Native.Nat.{ℕ, _*_}
-use Rattle.params.specs.Sets.{known, paramsOf}
+use lib.Dec.{eqb}
+use Rattle.numbers.specs.Tests.{pick}
+use Rattle.params.specs.declared.Params.{Params}
+use Rattle.params.specs.Sets.{setOf, known}
 use Rattle.gate.specs.Checks.{firstFailing, checksOf}
 use Rattle.samplers.specs.declared.Admitted.{Admitted}
 use Rattle.samplers.specs.declared.Admitted.the-variants.{Set, Refused}
 
--- the number of the first check that fails, which is not 0, or, where none fails, the constants of the set
-abbrev pub Admits : Admitted → (n coefficients room set : ℕ) → Type 0
-Admits (Refused k) n coefficients room set = (k ≡ firstFailing (checksOf n room (coefficients * n) (known set) [])) × ¬ (k ≡ 0)
-Admits (Set p) n coefficients room set = (0 ≡ firstFailing (checksOf n room (coefficients * n) (known set) [])) × (p ≡ paramsOf set)
+-- a number, and the constants of a set where it is 0
+unfoldable pub admittedStandsFor : Admitted → ℕ × Option Params
+admittedStandsFor (Set p) = (0, some p)
+admittedStandsFor (Refused k) = (k, none)
+
+-- the number of the first check that fails, or 0
+abbrev pub samplerNumber : (n coefficients room set : ℕ) → ℕ
+samplerNumber n coefficients room set = firstFailing (checksOf n room (coefficients * n) (known set) [])
+
+-- and, where it is 0, the constants of the set
+abbrev pub admission : (n coefficients room set : ℕ) → ℕ × Option Params
+admission n coefficients room set = (samplerNumber n coefficients room set, pick (eqb (samplerNumber n coefficients room set) 0) (setOf set) none)

@@ -20,7 +20,7 @@ ghost use Rattle.sample.specs.Sampling.{polynomial};
 ghost use Rattle.gate.specs.Told.{silentRan, ranTold, standsFor};
 ghost use Rattle.gate.specs.Sampler.{samples};
 ghost use Rattle.samplers.specs.Samplers.{sampler, polynomialSampler};
-ghost use Rattle.samplers.specs.Answers.{Admits};
+ghost use Rattle.samplers.specs.Answers.{admittedStandsFor, admission};
 
 // The set that is sampled for, or the number of the first check that fails.
 enum Admitted {
@@ -30,7 +30,7 @@ enum Admitted {
 
 fn admit(n: usize, coefficients: usize, room: usize, set: u32) -> Admitted
     requires { ⌜ coefficients ≤ 256 ⌝ }
-    ensures { λ r. ⌜ Admits r n coefficients room set ⌝ }
+    ensures { λ r. ⌜ admittedStandsFor r ≡ admission n coefficients room set ⌝ }
 {
     let Choice::Set(p) = Params::of_set(set) else {
         return Admitted::Refused(first_of_three(n, coefficients, room, false));

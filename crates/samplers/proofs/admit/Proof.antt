@@ -1,10 +1,12 @@
 use borrow.Author.Needs.{needs}
+use Rattle.samplers.specs.Answers.{admittedStandsFor}
+use Rattle.samplers.proofs.AdmitLaws.{refused-admits, set-admits}
 use mathlib.Core.Path.{_≡_, sym, ap, _∙_}
 use mathlib.Core.Bool.{Bool}
 use mathlib.Core.List.{[]}
 use Prim.Native.Nat.{_*_}
 use Rattle.params.specs.Sets.{known}
-use Rattle.params.proofs.SetLaws.{set-known, set-params, set-unknown}
+use Rattle.params.proofs.SetLaws.{set-is, set-known, set-unknown}
 use Rattle.gate.specs.Checks.{firstFailing, checksOf}
 use Rattle.gate.proofs.CheckLaws.{fails-out}
 use Rattle.samplers.proofs.admit.Statement.{statement}
@@ -34,22 +36,29 @@ first-of-three-requires : tie.Need-first-of-three-requires
 first-of-three-requires c κs = search needs
 
 returns : tie.Need-returns
+unfolding admittedStandsFor
 returns c =
     let e = c .before in
     let o = e .before .before in
+    let a = o .before .args in
     let f = set-unknown _ _ (o .of-set .ensures) (e .enum-told .given .1) in
-    (c .first-of-three .ensures ∙ ap (λ (b : Bool). firstFailing (checksOf (o .before .args .n) (o .before .args .room) (o .before .args .coefficients * o .before .args .n) b [])) (sym f), fails-out _ _ _ _ (c .first-of-three .ensures))
+    refused-admits (a .n) (a .coefficients) (a .room) (a .set)
+    (c .first-of-three .ensures ∙ ap (λ (b : Bool). firstFailing (checksOf (a .n) (a .room) (a .coefficients * a .n) b [])) (sym f)) (fails-out _ _ _ _ (c .first-of-three .ensures))
 
 first-of-three-requires-2 : tie.Need-first-of-three-requires-2
 first-of-three-requires-2 c κs = search needs
 
 returns-2 : tie.Need-returns-2
-returns-2 c = (found (c .before), c .if1 .taken)
+unfolding admittedStandsFor
+returns-2 c = let a = c .before .before .before .before .before .before .args in refused-admits (a .n) (a .coefficients) (a .room) (a .set) (found (c .before)) (c .if1 .taken)
 
 returns-3 : tie.Need-returns-3
+unfolding admittedStandsFor
 returns-3 c =
     let p = c .before .before .before in
-    (sym (c .if1 .left) ∙ found (c .before), sym (set-params _ _ (p .before .before .of-set .ensures) (p .p .given .1)))
+    let o = p .before .before in
+    let a = o .before .args in
+    set-admits (a .n) (a .coefficients) (a .room) (a .set) (sym (c .if1 .left) ∙ found (c .before)) (set-is _ _ (o .of-set .ensures) (p .p .given .1))
 
 pub admit-spec : {M : Type 1} → statement M
 admit-spec =
