@@ -2,14 +2,14 @@
 use mathlib.Core.Path.{refl}
 use lib.Count.{leadingZeros}
 use Rattle.numbers.specs.Modulo.{addMod, subMod, negMod, xor}
-use Rattle.numbers.specs.Bits.{bitsOf}
 use Rattle.numbers.specs.Lists.{change, along, over}
-use Rattle.numbers.specs.Bits.{alpha, powerFrom}
+use Rattle.numbers.specs.Bits.{bitsOf, alpha, powerFrom}
+use Rattle.numbers.specs.Centred.{centred}
 use Rattle.params.specs.Sets.{setOf, known, paramsOf}
 use Rattle.tape.specs.Tape.{lowBits, drawFrom, drawAt}
 use Rattle.draws.specs.Draws.{after, next, run, bind, turns, each}
 use Rattle.draws.specs.Plan.{drawAll}
-use Rattle.shares.specs.Sharing.{move}
+use Rattle.shares.specs.Sharing.{addToFirst, takeFromFirst, move}
 use Rattle.shares.specs.Refresh.{turn, refresh}
 use Rattle.halving.specs.Halving.{negated, join, joinTurn, sharedParity, less, moveParity, evened, halves, halving}
 use Rattle.shift.specs.Shift.{shift}
@@ -23,10 +23,11 @@ use Rattle.gate.specs.Gadget.{silentSteps, closed, tells}
 use Rattle.gate.specs.Sampler.{samples}
 use Rattle.sample.specs.Sampling.{lowered, coefficient}
 use Rattle.samplers.specs.Samplers.{sampler}
+use Rattle.decompose.specs.Plain.{remainder, multiple, last, highOf, lowOf}
 use Rattle.gadgets.specs.Shift.{shiftRange, shiftGadget, toBooleanGadget}
 use Rattle.gadgets.specs.Convert.{toArithmeticGadget}
 use Rattle.demands.specs.Cases.{Cases}
 
 pub cases : Cases
-unfolding leadingZeros addMod subMod negMod xor bitsOf change along over lowBits drawFrom drawAt after next run bind turns each move turn refresh negated join joinTurn sharedParity less moveParity evened halves halving shift withBit bitsFrom toBoolean psi psis zOf added rule toArithmetic inside allBelow firstFailing checksOf checks refusal ranTold silentSteps closed checkNumber told tells shiftRange shiftGadget toBooleanGadget toArithmeticGadget samples setOf known paramsOf drawAll floors raised raisedShift carries without toModulus lowered coefficient alpha powerFrom sampler
-cases = record { draw-skips = refl; draw-cuts = refl; psi-of = refl; shift-draws = refl; shift-skips = refl; shift-ends = refl; to-arithmetic = refl; to-boolean = refl; sampling = refl }
+unfolding leadingZeros addMod subMod negMod xor bitsOf change along over lowBits drawFrom drawAt after next run bind turns each move turn refresh negated join joinTurn sharedParity less moveParity evened halves halving shift withBit bitsFrom toBoolean psi psis zOf added rule toArithmetic inside allBelow firstFailing checksOf checks refusal ranTold silentSteps closed checkNumber told tells shiftRange shiftGadget toBooleanGadget toArithmeticGadget samples setOf known paramsOf drawAll floors raised raisedShift carries without toModulus lowered coefficient alpha powerFrom sampler addToFirst takeFromFirst centred remainder multiple last highOf lowOf
+cases = record { draw-skips = refl; draw-cuts = refl; psi-of = refl; shift-draws = refl; shift-skips = refl; shift-ends = refl; to-arithmetic = refl; to-boolean = refl; sampling = refl; decompose-half = refl; decompose-past-half = refl; decompose-last = refl; decompose-wraps = refl; decompose-before = refl }

@@ -10,5 +10,7 @@ pub mod Refresh
 pub mod Shift
 pub mod Convert
 pub mod Sample
+pub mod Widen
+pub mod Decompose
 pub mod Cases
 pub mod Worked

@@ -1,5 +1,5 @@
 -- Calls worked by hand beyond document 01's table, where no case has three shares: they show the order of the shares, into which one a parity
--- moves, where the results of U and Z go, where each coefficient of a polynomial stands and what a refusal leaves, and that the demands speak of
+-- moves, where the results of U and Z go, where each coefficient of a polynomial stands, what a refusal leaves and hides, and that the demands speak of
 -- something.
 use mathlib.Core.Path.{_≡_}
 use mathlib.Core.List.{[], _∷_, _++_}
@@ -8,6 +8,7 @@ use Rattle.numbers.specs.Lists.{over}
 use Rattle.gate.specs.Gadget.{tells}
 use Rattle.gate.specs.Sampler.{samples}
 use Rattle.samplers.specs.Samplers.{sampler, polynomialSampler}
+use Rattle.coefficients.specs.Coefficients.{widenGadget, decomposeGadget}
 use Rattle.gadgets.specs.Refresh.{refreshGadget, booleanGadget}
 use Rattle.gadgets.specs.Shift.{shiftGadget, toBooleanGadget}
 use Rattle.gadgets.specs.Convert.{toArithmeticGadget, toModQGadget}
@@ -47,3 +48,13 @@ pub record Worked : Type 0 where
   -- a polynomial's slice is wiped where the tape ends, and kept where it has the wrong length
   pub wiped : samples (polynomialSampler 87) 2 (0 ∷ 0 ∷ 0 ∷ 0 ∷ 0 ∷ 0 ∷ 0 ∷ []) (replicate 512 7) ≡ record { number = 5; opened = []; used = 0; out = replicate 512 0 }
   pub kept : samples (polynomialSampler 87) 2 (0 ∷ []) (replicate 511 7) ≡ record { number = 2; opened = []; used = 0; out = replicate 511 7 }
+  -- 8380340 is −77 modulo q, and the shares sum to −77 modulo 256·q too. Four draws each are below 2^11, 2^10 and 2^9, two below 256·q
+  pub widened : tells (widenGadget 44 1) (5000000 ∷ 3380300 ∷ 40 ∷ []) (3 ∷ 10 ∷ 17 ∷ 24 ∷ 31 ∷ 38 ∷ 45 ∷ 52 ∷ 59 ∷ 66 ∷ 73 ∷ 80 ∷ 87 ∷ 94 ∷ []) (0 ∷ 0 ∷ 0 ∷ [])
+      ≡ record { number = 0; opened = []; used = 14; out = 1454812228 ∷ 1361007948 ∷ 1474953251 ∷ [] }
+  -- there is no kind 3
+  pub no-kind : tells (widenGadget 44 3) (1 ∷ 2 ∷ []) (0 ∷ []) (7 ∷ 7 ∷ []) ≡ record { number = 3; opened = []; used = 0; out = 7 ∷ 7 ∷ [] }
+  -- 95233 is 1 times 190464, less 95231. Of the tape, 50 is skipped in the refresh mod 44 and 8380417 in the closing one
+  pub decomposed : tells (decomposeGadget 44) (8000000 ∷ 475650 ∷ []) (1 ∷ 6 ∷ 11 ∷ 16 ∷ 4 ∷ 9 ∷ 14 ∷ 2 ∷ 7 ∷ 12 ∷ 0 ∷ 5 ∷ 10 ∷ 15 ∷ 3 ∷ 8 ∷ 13 ∷ 1 ∷ 6 ∷ 11 ∷ 16 ∷ 4 ∷ 9 ∷ 14 ∷ 50 ∷ 7 ∷ 8380417 ∷ 9 ∷ []) (0 ∷ 0 ∷ [])
+      ≡ record { number = 0; opened = 1 ∷ []; used = 28; out = 7809545 ∷ 475641 ∷ [] }
+  -- with a word less, the high part has been opened but the closing refresh meets the end: the high part is not shown
+  pub hidden : tells (decomposeGadget 44) (8000000 ∷ 475650 ∷ []) (1 ∷ 6 ∷ 11 ∷ 16 ∷ 4 ∷ 9 ∷ 14 ∷ 2 ∷ 7 ∷ 12 ∷ 0 ∷ 5 ∷ 10 ∷ 15 ∷ 3 ∷ 8 ∷ 13 ∷ 1 ∷ 6 ∷ 11 ∷ 16 ∷ 4 ∷ 9 ∷ 14 ∷ 50 ∷ 7 ∷ 8380417 ∷ []) (7 ∷ 7 ∷ []) ≡ record { number = 5; opened = 0 ∷ []; used = 0; out = 7 ∷ 7 ∷ [] }

@@ -4,6 +4,9 @@ mod conversions;
 mod refreshes;
 mod shifts;
 
+pub use coefficients::Decomposed;
+pub use coefficients::decompose;
+pub use coefficients::widen;
 pub use conversions::to_arithmetic;
 pub use conversions::to_mod_q;
 pub use gate::Answer;

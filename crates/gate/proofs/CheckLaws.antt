@@ -22,6 +22,10 @@ pub both-right : (a b : Bool) → both a b ≡ true → b ≡ true
 both-right true b e = e
 both-right false b e = cc
 
+pub both-true : (a : Bool) → both a true ≡ a
+both-true true = refl
+both-true false = refl
+
 -- ---- a number from low to high
 module _ (low high x : ℕ) where
   pub inside-yes : low ≤ x → x ≤ high → inside low high x ≡ true
@@ -140,6 +144,11 @@ fails-out n room words more e z =
     let f : false ≡ true = all-checked n room words false more (sym e ∙ z) .range in
     let w : _≡_ {A = ℕ} 0 1 = cc in
     omega arith
+
+-- so of the checks on shares
+pub failing-out : (shares : List ℕ) (room M : ℕ) {k : ℕ} → k ≡ firstFailing (checks shares room false M) → ¬ (k ≡ 0)
+unfolding checks
+failing-out shares room M e = fails-out (length shares) room (length shares) ((4, allBelow M shares) ∷ []) e
 
 -- one coefficient takes n words
 pub of-one : (n room : ℕ) (inRange : Bool) (more : List (ℕ × Bool)) {k : ℕ} → k ≡ firstFailing (checksOf n room (1 * n) inRange more) → k ≡ firstFailing (checksOf n room n inRange more)

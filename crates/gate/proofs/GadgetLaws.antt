@@ -17,8 +17,8 @@ use Rattle.shares.specs.declared.Shared.{Shared}
 use Rattle.shares.specs.Arrays.{Held, Copied, shared, Gave}
 use Rattle.gate.specs.Checks.{firstFailing, checksOf, checks}
 use Rattle.gate.specs.declared.Answer.{Answer}
-use Rattle.gate.specs.Told.{Told, refusal, silent, silentRan, ranTold, Call, checkNumber, told, standsFor}
-use Rattle.gate.specs.Gadget.{silentSteps, silentGadget, closed, call, tells}
+use Rattle.gate.specs.Told.{Told, refusal, Outcome, silent, silentRan, ranTold, Call, checkNumber, told, standsFor}
+use Rattle.gate.specs.Gadget.{Gadget, silentSteps, silentGadget, closed, call, tells}
 use Rattle.gate.specs.Sampler.{Sampler, samplerCall, samples}
 use Rattle.gate.proofs.CheckLaws.{Passed}
 
@@ -64,20 +64,29 @@ module _ (x : Ran (List ℕ)) (out : List ℕ) where
 pub by-check : (c : Call) (tape : List ℕ) {k : ℕ} {t : Told} → k ≡ checkNumber c → (k ≡ 0 → ⊥) → t ≡ refusal (c .fields) k (c .out) → t ≡ told c tape
 by-check c tape e n f = f ∙ ap (λ (m : ℕ). refusal (c .fields) m (c .out)) e ∙ sym (tells-refused c tape (λ z. n (e ∙ z)))
 
--- a public gadget that opens nothing keeps its promise: where a check failed, and where its steps ran
+-- a public gadget on shares keeps its promise: where a check failed, and where its steps and the closing refresh ran
+module _ (g : Gadget) (shares tape out : List ℕ) where
+  pub gadget-refused : {k : ℕ} {t : Told} → k ≡ firstFailing (checks shares (length out) (g .inRange) (bound (g .input))) → (k ≡ 0 → ⊥) →
+      t ≡ refusal (g .fields) k out → t ≡ tells g shares tape out
+  unfolding checkNumber tells
+  gadget-refused e n f = by-check (call g shares out) tape e n f
+
+  pub gadget-ran : {t : Told} {x : Ran Outcome} → firstFailing (checks shares (length out) (g .inRange) (bound (g .input))) ≡ 0 →
+      t ≡ ranTold (g .fields) x out → x ≡ run (closed (g .output) (g .steps shares)) tape start → t ≡ tells g shares tape out
+  unfolding checkNumber tells
+  gadget-ran e f h = f ∙ ap (λ y. ranTold (g .fields) y out) h ∙ sym (tells-passed (call g shares out) tape e)
+
+-- so does one that opens nothing
 module _ (inRange : Bool) (input output : Sharing) (steps : List ℕ → Draws (List ℕ)) (shares tape out : List ℕ) where
   pub silent-refused : {k : ℕ} {t : Told} → k ≡ firstFailing (checks shares (length out) inRange (bound input)) → (k ≡ 0 → ⊥) → t ≡ refusal 0 k out →
       t ≡ tells (silentGadget inRange input output steps) shares tape out
-  unfolding checkNumber tells
-  silent-refused e n f = by-check (call (silentGadget inRange input output steps) shares out) tape e n f
+  silent-refused = gadget-refused (silentGadget inRange input output steps) shares tape out
 
   pub silent-ran : {t : Told} {x : Ran (List ℕ)} → firstFailing (checks shares (length out) inRange (bound input)) ≡ 0 →
       t ≡ ranTold 0 (silentRan x) out → x ≡ run (bind (steps shares) (refresh output)) tape start →
       t ≡ tells (silentGadget inRange input output steps) shares tape out
-  unfolding checkNumber tells
   silent-ran e f h =
-      f ∙ ap (λ y. ranTold 0 (silentRan y) out) h ∙ ap (λ y. ranTold 0 y out) (sym (closed-silent output (steps shares) tape start))
-      ∙ sym (tells-passed (call (silentGadget inRange input output steps) shares out) tape e)
+      gadget-ran (silentGadget inRange input output steps) shares tape out e f (ap silentRan h ∙ sym (closed-silent output (steps shares) tape start))
 
 -- so does a sampler
 module _ (g : Sampler) (n : ℕ) (tape out : List ℕ) where

@@ -1,2 +1,3 @@
 pub mod CheckLaws
 pub mod GadgetLaws
+pub mod AdmitLaws

@@ -2,3 +2,4 @@ pub mod Checks
 pub mod Told
 pub mod Gadget
 pub mod Sampler
+pub mod Admission

@@ -16,6 +16,12 @@ pub struct Answer {
     pub used: usize,
 }
 
+// What the checks answer, of a gadget that goes by a parameter set: the set, or the number of the first check that fails.
+pub enum Admitted {
+    Set(Params),
+    Refused(u32),
+}
+
 pub fn inside(low: u32, high: u32, x: u32) -> bool
     ensures { λ r. ⌜ r ≡ inside low high x ⌝ }
 {

@@ -1,13 +1,14 @@
 -- Laws of residues as signed numbers.
-use mathlib.Core.Path.{_≡_, sym, ap, _∙_}
-use Prim.Native.Nat.{ℕ, zero, suc, _+_, _-_, _/_, _≤_, _<_}
+use mathlib.Core.Path.{_≡_, sym, ap, subst, _∙_}
+use Prim.Native.Nat.{ℕ, zero, suc, _+_, _-_, _*_, _/_, _%_, _≤_, _<_}
+use native.Mathlib.Nat.{mod-eq-of-lt, mod-eq-sub-mod}
 use native.Mathlib.Decide.{decLe}
 use native.Mathlib.Omega.{arith}
 use lib.Dec.{le→leb}
-use lib.IntN.{pos, negsuc, negℤ, _-ℤ_}
+use lib.IntN.{ℤ, pos, negsuc, negℤ, natAbs, _-ℤ_, -ℤ-one}
 use lib.Signed.{_≤ℤ_, leZ-yes}
 use borrow.Author.Tests.{lt-ltb, le-ltb, le-leb, lt-leb}
-use Rattle.numbers.specs.Modulo.{subMod}
+use Rattle.numbers.specs.Modulo.{addMod, subMod}
 use Rattle.numbers.specs.Centred.{centred}
 use Rattle.numbers.proofs.Cong.{cong-by, cong-eq}
 use Rattle.numbers.proofs.GroupLaws.{sub-only}
@@ -20,6 +21,19 @@ less-over a (suc b) h = rw (le-ltb a (suc b) h)
 pub less-under : (a b : ℕ) → a < b → pos a -ℤ pos b ≡ negsuc (b - suc a)
 less-under a zero h = absurd (omega arith)
 less-under a (suc b) h = rw (lt-ltb a (suc b) h)
+
+-- a smaller number less another is one below what it is less the one before
+pub less-one : (a b : ℕ) → a < b → pos a -ℤ pos b ≡ (pos a -ℤ pos (b - 1)) -ℤ pos 1
+less-one a b h = go (decLe (b - 1) a)
+  where
+    go : Dec (b - 1 ≤ a) → pos a -ℤ pos b ≡ (pos a -ℤ pos (b - 1)) -ℤ pos 1
+    go (yes l) =
+        let e : a - (b - 1) ≡ 0 = omega arith in
+        let f : b - suc a ≡ 0 = omega arith in
+        less-under a b h ∙ ap negsuc f ∙ sym (ap (λ (z : ℤ). z -ℤ pos 1) (less-over a (b - 1) l ∙ ap pos e))
+    go (no n) =
+        let e : b - suc a ≡ suc (b - 1 - suc a) = omega arith in
+        less-under a b h ∙ ap negsuc e ∙ sym (ap (λ (z : ℤ). z -ℤ pos 1) (less-under a (b - 1) (omega arith)) ∙ -ℤ-one (negsuc (b - 1 - suc a)))
 
 module _ (x g : ℕ) where
   -- x less g is at least −g, and at most any h for which x is at most g + h
@@ -38,8 +52,13 @@ module _ (x g : ℕ) where
       go (yes k) = rw (less-over x g k) (leZ-yes (le→leb (x - g) h (omega arith)))
       go (no n) = rw (less-under x g (omega arith)) (leZ-yes tt)
 
+-- a residue above M/2 means itself less M
+pub centred-top : (M x : ℕ) → M / 2 < x → centred M x ≡ pos x -ℤ pos M
+unfolding centred
+centred-top M x h = rw (lt-leb x (M / 2) h)
+
 -- a difference modulo M means the difference, where it is small enough either way
-module _ (M x g : ℕ) (low : x ≤ g + (M - 1) / 2) (high : g + (M - 1) / 2 < x + M) where
+module _ (M x g : ℕ) (low : x ≤ g + M / 2) (high : g + M / 2 < x + M) where
   over : g ≤ x → (x - g) ≡ subMod M x g
   over h = sub-only g (omega arith) (cong-eq (omega arith))
 
@@ -51,8 +70,38 @@ module _ (M x g : ℕ) (low : x ≤ g + (M - 1) / 2) (high : g + (M - 1) / 2 < x
   centred-sub = go (decLe g x)
     where
       go : Dec (g ≤ x) → centred M (subMod M x g) ≡ pos x -ℤ pos g
-      go (yes h) = rw (← over h, le-leb (x - g) ((M - 1) / 2) (omega arith)) (sym (less-over x g h))
+      go (yes h) = rw (← over h, le-leb (x - g) (M / 2) (omega arith)) (sym (less-over x g h))
       go (no n) =
           let h : x < g = omega arith in
           let e : M - suc (x + M - g) ≡ g - suc x = omega arith in
-          rw (← under h, lt-leb (x + M - g) ((M - 1) / 2) (omega arith)) (less-under (x + M - g) M (omega arith) ∙ ap negsuc e ∙ sym (less-under x g h))
+          rw (← under h, lt-leb (x + M - g) (M / 2) (omega arith)) (less-under (x + M - g) M (omega arith) ∙ ap negsuc e ∙ sym (less-under x g h))
+
+-- a residue of size at most b, with b added, is at most 2b, and less b again it is what the residue means
+module _ (M b x : ℕ) (l : x < M) (room : 2 * b < M) (h : natAbs (centred M x) ≤ b) where
+  record Reached : Type 0 where
+    most : addMod M x b ≤ 2 * b
+    is : pos (addMod M x b) -ℤ pos b ≡ centred M x
+
+  reached : Reached
+  unfolding centred addMod
+  reached = go (decLe x (M / 2))
+    where
+      go : Dec (x ≤ M / 2) → Reached
+      go (yes k) =
+          let c : centred M x ≡ pos x = rw (le-leb x (M / 2) k) in
+          let small : x ≤ b = subst (λ (z : ℤ). natAbs z ≤ b) c h in
+          let sum : (x + b) % M ≡ x + b = mod-eq-of-lt (omega arith) in
+          let back : x + b - b ≡ x = omega arith in
+          record { most = rw sum (omega arith); is = rw sum (less-over (x + b) b (omega arith) ∙ ap pos back ∙ sym c) }
+      go (no n) =
+          let c : centred M x ≡ negsuc (M - suc x) = rw (lt-leb x (M / 2) (omega arith)) (less-under x M l) in
+          let small : suc (M - suc x) ≤ b = subst (λ (z : ℤ). natAbs z ≤ b) c h in
+          let sum : (x + b) % M ≡ x + b - M = mod-eq-sub-mod {n = x + b} {m = M} (omega arith) ∙ mod-eq-of-lt (omega arith) in
+          let back : b - suc (x + b - M) ≡ M - suc x = omega arith in
+          record { most = rw sum (omega arith); is = rw sum (less-under (x + b - M) b (omega arith) ∙ ap negsuc back ∙ sym c) }
+
+  pub reach-most : addMod M x b ≤ 2 * b
+  reach-most = reached .most
+
+  pub reach-is : pos (addMod M x b) -ℤ pos b ≡ centred M x
+  reach-is = reached .is

@@ -1,8 +1,9 @@
--- Residues as signed numbers (document 01, "Steps": a residue above (q−1)/2 means itself less q).
-use Prim.Native.Nat.{ℕ, _-_, _/_}
+-- Residues as signed numbers: from −⌈M/2⌉ + 1 to ⌊M/2⌋, as FIPS 204 has mod±. For q, which is odd, a residue above (q−1)/2 means itself less q
+-- (document 01, "Steps").
+use Prim.Native.Nat.{ℕ, _/_}
 use lib.Dec.{leb}
 use lib.IntN.{ℤ, pos, _-ℤ_}
 use Rattle.numbers.specs.Tests.{pick}
 
 unfoldable pub centred : ℕ → ℕ → ℤ
-centred M v = pick (leb v ((M - 1) / 2)) (pos v) (pos v -ℤ pos M)
+centred M v = pick (leb v (M / 2)) (pos v) (pos v -ℤ pos M)

@@ -1,17 +1,19 @@
 -- The laws of the parameter sets, and their numbers.
 use mathlib.Core.Path.{_≡_, refl, sym, ap, subst, _∙_}
-use mathlib.Core.Bool.{true, false}
+use mathlib.Core.Bool.{Bool, true, false}
 use mathlib.Core.Option.{none, some}
 use Prim.Native.Nat.{ℕ}
 use native.Mathlib.Omega.{arith}
 use native.Mathlib.Decide.{ℕ-discrete}
+use lib.Dec.{eqb}
 use borrow.Author.Tests.{ne-eqb}
+use Rattle.numbers.specs.Tests.{pick}
 use Rattle.params.specs.declared.Params.{Params}
 use Rattle.params.specs.declared.Choice.{Choice}
 use Rattle.params.specs.declared.Choice.the-variants.{Set, Unknown}
-use Rattle.params.specs.Sets.{setOf, Known, is-44, is-65, is-87, known, paramsOf}
+use Rattle.params.specs.Sets.{setOf, ofKind, Known, is-44, is-65, is-87, known, paramsOf}
 use Rattle.params.specs.Answers.{choiceStandsFor}
-use Rattle.params.specs.Laws.{Laws}
+use Rattle.params.specs.Laws.{Reached, Laws}
 
 pub set-laws : {s : ℕ} → Known s → Laws (paramsOf s)
 unfolding setOf paramsOf
@@ -52,3 +54,12 @@ module _ (s : ℕ) (r : Choice) (told : choiceStandsFor r ≡ setOf s) where
   pub set-unknown : r ≡ Unknown → known s ≡ false
   unfolding known choiceStandsFor
   set-unknown e = let n : setOf s ≡ none = sym told ∙ ap choiceStandsFor e in rw n
+
+-- each kind has what is asked of a kind
+pub kind-reached : {p : Params} → Laws p → (kind : ℕ) → Reached (ofKind p kind)
+unfolding ofKind
+kind-reached {p} l kind = go (eqb kind 1)
+  where
+    go : (b : Bool) → Reached (pick b (p .kind1) (p .kind2))
+    go true = l .reached1
+    go false = l .reached2

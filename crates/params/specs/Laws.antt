@@ -5,10 +5,12 @@ use Rattle.numbers.specs.Modulo.{q}
 use Rattle.params.specs.declared.Bounds.{Bounds}
 use Rattle.params.specs.declared.Params.{Params}
 
--- of a kind: b − a < 2^ρ, and 4b ≤ q
+-- of a kind: b − a < 2^ρ, 4b ≤ q, ρ at least 1, and 2^ρ·q a word
 pub record Reached (k : Bounds) : Type 0 where
   pub past : k .b < k .a + 2 ^ k .rho
   pub quarter : 4 * k .b ≤ q
+  pub least : 1 ≤ k .rho
+  pub word : 2 ^ k .rho * q < 2 ^ 32
 
 pub record Laws (p : Params) : Type 0 where
   -- the mask's offset γ1 − 1 is not zero
@@ -17,6 +19,9 @@ pub record Laws (p : Params) : Type 0 where
   pub mask : 2 ^ p .mu ≡ 2 * p .gamma1
   -- 2γ2·δ = q − 1
   pub parts : 2 * p .gamma2 * p .delta ≡ q - 1
+  -- δ is from 2 to 63, so that δ·2^26 is a word
+  pub parts-least : 2 ≤ p .delta
+  pub parts-most : p .delta ≤ 63
   -- kind 1: a = γ1 − β, b = γ1 + β
   pub bound1 : p .kind1 .a + p .beta ≡ p .gamma1
   pub reach1 : p .kind1 .b ≡ p .gamma1 + p .beta

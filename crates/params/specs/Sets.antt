@@ -28,6 +28,10 @@ set87 = params 524288 261888 120 16 20 (bounds 524168 524408 8) (bounds 261768 2
 unfoldable pub setOf : ℕ → Option Params
 setOf s = pick (eqb s 44) (some set44) (pick (eqb s 65) (some set65) (pick (eqb s 87) (some set87) none))
 
+-- the bounds of kind 1, or of kind 2. Another number is refused; what this says of it counts for nothing
+unfoldable pub ofKind : Params → ℕ → Bounds
+ofKind p kind = pick (eqb kind 1) (p .kind1) (p .kind2)
+
 -- a number in its range: 44, 65 or 87
 pub data Known : ℕ → Type 0 where
   is-44 : Known 44
@@ -49,3 +53,7 @@ paramsOf s = of (setOf s)
     of : Option Params → Params
     of none = set44
     of (some p) = p
+
+-- the bounds of a kind of a set
+abbrev pub kindOf : (set kind : ℕ) → Bounds
+kindOf set kind = ofKind (paramsOf set) kind

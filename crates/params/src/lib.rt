@@ -1,6 +1,6 @@
 // The parameter sets of ML-DSA: in code the constants of each stand here alone.
 ghost use mathlib.Core.Path.{_≡_};
-ghost use Rattle.params.specs.Sets.{bounds, setOf};
+ghost use Rattle.params.specs.Sets.{bounds, setOf, ofKind};
 ghost use Rattle.params.specs.Answers.{choiceStandsFor};
 
 // Of one kind of coefficient: a size below the bound a is accepted, up to the reach b widening keeps the value, and rho is the verdict's shift.
@@ -76,6 +76,16 @@ impl Params {
                 kind2: Bounds::of(261768, 261888, 7),
             }),
             _ => Choice::Unknown,
+        }
+    }
+
+    // The bounds of kind 1 or 2; any other number is refused before they are asked for.
+    pub fn of_kind(self, kind: u32) -> Bounds
+        ensures { λ r. ⌜ r ≡ ofKind self kind ⌝ }
+    {
+        match kind {
+            1 => self.kind1,
+            _ => self.kind2,
         }
     }
 }

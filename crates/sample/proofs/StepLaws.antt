@@ -1,13 +1,8 @@
 -- Laws of the steps of one coefficient.
 use mathlib.Core.Path.{_≡_, refl, sym, _∙_}
 use mathlib.Core.List.{List}
-use Prim.Native.Nat.{ℕ, _<_}
-use native.Mathlib.Nat.{mod-lt}
-use native.Mathlib.Omega.{arith}
-use lib.ListN.{take}
-use Rattle.numbers.specs.Modulo.{q, subMod}
-use Rattle.numbers.specs.Lists.{Words}
-use Rattle.numbers.proofs.WordsLaws.{take-change, words-change}
+use Prim.Native.Nat.{ℕ}
+use Rattle.numbers.specs.Modulo.{q}
 use Rattle.params.specs.declared.Params.{Params}
 use Rattle.tape.specs.declared.Cursor.{Cursor}
 use Rattle.tape.specs.Tape.{ended, ran}
@@ -18,15 +13,6 @@ use Rattle.shares.specs.Sharing.{arithmetic}
 use Rattle.shares.specs.Refresh.{refresh}
 use Rattle.switching.specs.ToModulus.{toModulus}
 use Rattle.sample.specs.Sampling.{lowered, maskPlan, coefficient}
-
--- the offset taken from the first share of an array, and of its n shares
-pub lowered-take : (γ1 n : ℕ) (words : List ℕ) → 0 < n → take n (lowered γ1 words) ≡ lowered γ1 (take n words)
-unfolding lowered
-lowered-take γ1 n words h = take-change _ n 0 words h
-
-pub lowered-words : (γ1 n : ℕ) (words : List ℕ) → Words n q words → Words n q (lowered γ1 words)
-unfolding lowered subMod
-lowered-words γ1 n words w = words-change _ 0 w (mod-lt _ (omega arith))
 
 module _ (p : Params) (n : ℕ) (tape : List ℕ) (c : Cursor) where
   -- the tape ended in the draws of the mask

@@ -19,7 +19,7 @@ use Rattle.draws.proofs.PlanLaws.{gives-bind, gives-map, gives-rounds, gives-as
 use Rattle.shares.specs.Sharing.{arithmetic}
 use Rattle.shares.specs.Refresh.{refresh, refreshPlan}
 use Rattle.shares.proofs.SharingLaws.{Shares}
-use Rattle.shares.proofs.MoveLaws.{taken-value}
+use Rattle.shares.proofs.FirstLaws.{taken-first}
 use Rattle.shares.proofs.RefreshLaws.{refresh-keeps}
 use Rattle.switching.specs.ToModulus.{toModulusPlan}
 use Rattle.switching.proofs.ValueLaws.{to-modulus-keeps}
@@ -40,7 +40,7 @@ module _ {p : Params} (l : Laws p) (n : ℕ) (least : 0 < n) (room : p .mu + alp
       gives-bind (λ ys. refresh (arithmetic q) (lowered (p .gamma1) ys)) (refreshPlan (arithmetic q) n)
       (to-modulus-keeps q (p .mu) n (xorAll xs) xs (omega arith) room least (record { words = w; is = refl }))
       (λ ys a. refresh-keeps (arithmetic q) (omega arith) _ _ least
-      (taken-value (arithmetic q) (omega arith) 0 (p .gamma1 - 1) (omega (arith, mask-small l)) least (record { words = a .words; is = a .is ∙ small })))
+      (taken-first (arithmetic q) (p .gamma1 - 1) (omega arith) (omega (arith, mask-small l)) least (record { words = a .words; is = a .is ∙ small })))
 
   pub coefficient-gives : Gives (Words n q) (coefficient p n) (coefficientPlan p n)
   unfolding coefficient coefficientPlan

@@ -2,18 +2,18 @@
 use mathlib.Core.List.{List, [], _++_}
 use Prim.Native.Nat.{ℕ, _+_, _-_, _*_, _^_}
 use lib.ListN.{length, take, drop, replicate}
-use Rattle.numbers.specs.Modulo.{q, subMod}
-use Rattle.numbers.specs.Lists.{change, over}
+use Rattle.numbers.specs.Modulo.{q}
+use Rattle.numbers.specs.Lists.{over}
 use Rattle.params.specs.declared.Params.{Params}
 use Rattle.draws.specs.Draws.{Draws, done, bind, each}
 use Rattle.draws.specs.Plan.{drawAll}
-use Rattle.shares.specs.Sharing.{arithmetic}
+use Rattle.shares.specs.Sharing.{arithmetic, takeFromFirst}
 use Rattle.shares.specs.Refresh.{refresh, refreshPlan}
 use Rattle.switching.specs.ToModulus.{toModulus, toModulusPlan}
 
 -- γ1 − 1 taken from share 1
 unfoldable pub lowered : ℕ → List ℕ → List ℕ
-lowered γ1 xs = change (λ x. subMod q x (γ1 - 1)) 0 xs
+lowered γ1 xs = takeFromFirst (arithmetic q) (γ1 - 1) xs
 
 -- what is drawn first: n words below 2^μ, as Boolean shares
 abbrev pub maskPlan : Params → ℕ → List ℕ

@@ -2,21 +2,19 @@
 use params::Params;
 use shares::Shared;
 use shares::refresh;
+use shares::take_from_first;
 use switching::to_modulus;
 use tape::Cursor;
 use tape::Draw;
 use words::power;
-use words::sub_mod;
-ghost use mathlib.Core.Path.{_≡_};
-ghost use Prim.Native.Nat.{_^_, _≤_, _<_};
+ghost use Prim.Native.Nat.{_^_, _≤_};
 ghost use lib.ListN.{replicate};
 ghost use Rattle.numbers.specs.Modulo.{q};
-ghost use Rattle.numbers.specs.Lists.{Words};
 ghost use Rattle.params.specs.Laws.{Laws};
 ghost use Rattle.draws.specs.Draws.{run};
 ghost use Rattle.draws.specs.Plan.{drawAll};
 ghost use Rattle.shares.specs.Arrays.{Gave};
-ghost use Rattle.sample.specs.Sampling.{lowered, coefficient};
+ghost use Rattle.sample.specs.Sampling.{coefficient};
 
 // n words below 2^mu: the Boolean shares of a number that nobody holds.
 fn draw_shares(n: usize, mu: u32, cursor: Cursor, tape: &[u32]) -> Shared
@@ -40,16 +38,6 @@ fn draw_shares(n: usize, mu: u32, cursor: Cursor, tape: &[u32]) -> Shared
     }
 }
 
-// The mask's offset, gamma1 − 1, taken from the first share.
-fn lower(shares: [u32; Params::MOST], gamma1: u32) -> [u32; Params::MOST]
-    requires { ⌜ (1 ≤ gamma1) × (gamma1 < q) × Words 8 q shares ⌝ }
-    ensures { λ r. ⌜ r ≡ lowered gamma1 shares ⌝ }
-{
-    let mut words = shares;
-    words[0] = sub_mod(words[0], gamma1 - 1, Params::Q);
-    words
-}
-
 pub fn coefficient(p: Params, n: usize, cursor: Cursor, tape: &[u32]) -> Shared
     requires { ⌜ Laws p × (2 ≤ n) × (n ≤ 8) ⌝ }
     ensures { λ r. ⌜ Gave n q r (run (coefficient p n) (now (tape .entry)) cursor) ⌝ }
@@ -66,5 +54,6 @@ pub fn coefficient(p: Params, n: usize, cursor: Cursor, tape: &[u32]) -> Shared
     }
     let y = converted.words;
     let after = converted.cursor;
-    refresh(lower(y, p.gamma1), n, Params::Q, after, tape)
+    let lowered = take_from_first(y, p.gamma1 - 1, Params::Q);
+    refresh(lowered, n, Params::Q, after, tape)
 }

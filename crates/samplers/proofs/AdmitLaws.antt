@@ -1,67 +1,30 @@
--- What the answer of a sampler's checks says, and what it is to say.
-use mathlib.Core.Path.{_≡_, sym, ap, ap₂, subst, _∙_}
-use mathlib.Core.Bool.{Bool, true, false}
+-- What the answer of a sampler's checks says.
+use mathlib.Core.Path.{_≡_, sym}
 use mathlib.Core.List.{[]}
-use mathlib.Core.Option.{Option, none, some}
 use Prim.Native.Nat.{ℕ, _*_}
-use native.Mathlib.Omega.{arith}
-use lib.Dec.{eqb}
-use borrow.Author.Tests.{eq-eqb, ne-eqb}
-use Rattle.numbers.specs.Tests.{pick}
 use Rattle.params.specs.declared.Params.{Params}
-use Rattle.params.specs.Sets.{setOf, known, paramsOf}
-use Rattle.params.specs.Laws.{Laws}
-use Rattle.params.proofs.SetLaws.{set-laws, known-so}
+use Rattle.params.specs.Sets.{known}
+use Rattle.gate.specs.declared.Admitted.{Admitted}
+use Rattle.gate.specs.declared.Admitted.the-variants.{Set, Refused}
+use Rattle.gate.specs.Admission.{admittedStandsFor, admission}
 use Rattle.gate.proofs.CheckLaws.{AllPassed, all-checked}
-use Rattle.samplers.specs.declared.Admitted.{Admitted}
-use Rattle.samplers.specs.declared.Admitted.the-variants.{Set, Refused}
-use Rattle.samplers.specs.Answers.{admittedStandsFor, samplerNumber, admission}
+use Rattle.gate.proofs.AdmitLaws.{not-admitted, Good, good}
+use Rattle.samplers.specs.Samplers.{samplerNumber}
 
 module _ (n coefficients room set : ℕ) where
   abbrev number : ℕ
   number = samplerNumber n coefficients room set
 
-  -- some check fails, or none
-  pub refused-admits : {k : ℕ} → k ≡ number → ¬ (k ≡ 0) → (k, none) ≡ admission n coefficients room set
-  refused-admits e h = ap₂ (λ (j : ℕ) (b : Bool). (j, pick b (setOf set) none)) e (sym (ne-eqb number 0 (λ z. h (e ∙ z))))
-
-  pub set-admits : {p : Params} → 0 ≡ number → setOf set ≡ some p → (0, some p) ≡ admission n coefficients room set
-  set-admits e f = ap (λ (o : Option Params). (0, o)) (sym f) ∙ ap₂ (λ (j : ℕ) (b : Bool). (j, pick b (setOf set) none)) e (sym (eq-eqb number 0 (sym e)))
-
-  -- where none does, the set is known
-  passed : number ≡ 0 → AllPassed n room (coefficients * n) (known set) []
+  pub passed : number ≡ 0 → AllPassed n room (coefficients * n) (known set) []
   passed e = all-checked n room (coefficients * n) (known set) [] e
 
-  given-set : {o : Option Params} → number ≡ 0 → o ≡ pick (eqb number 0) (setOf set) none → o ≡ setOf set
-  given-set e f = f ∙ ap (λ (b : Bool). pick b (setOf set) none) (eq-eqb number 0 e)
+  module _ (r : Admitted) (a : admittedStandsFor r ≡ admission number set) where
+    pub sampler-refuses : {k : ℕ} → r ≡ Refused k → (k ≡ number) × ¬ (k ≡ 0)
+    sampler-refuses = not-admitted number set (λ e. passed e .range) r a
 
-  module _ (r : Admitted) (a : admittedStandsFor r ≡ admission n coefficients room set) where
-    pub not-admitted : {k : ℕ} → r ≡ Refused k → (k ≡ number) × ¬ (k ≡ 0)
-    unfolding admittedStandsFor known
-    not-admitted {k} e =
-        let s : (k, none) ≡ admission n coefficients room set = sym (ap admittedStandsFor e) ∙ a in
-        let is : k ≡ number = ap (λ x. x .0) s in (
-          is,
-          λ z.
-              let none-known : none ≡ setOf set = given-set (sym is ∙ z) (ap (λ x. x .1) s) in
-              let t : known set ≡ true = passed (sym is ∙ z) .range in
-              let f : false ≡ true = rw (sym none-known) at t in
-              let w : _≡_ {A = ℕ} 0 1 = cc in
-              omega arith,
-        )
-
-    pub record Good (p : Params) : Type 0 where
-      pub passes : 0 ≡ number
+    pub record Admits (p : Params) : Type 0 where
       pub checked : AllPassed n room (coefficients * n) (known set) []
-      pub constants : p ≡ paramsOf set
-      pub laws : Laws p
+      pub found : Good number set (λ e. passed e .range) r a p
 
-    pub good : {p : Params} → r ≡ Set p → Good p
-    unfolding admittedStandsFor paramsOf
-    good {p} e =
-        let s : (0, some p) ≡ admission n coefficients room set = sym (ap admittedStandsFor e) ∙ a in
-        let passes : 0 ≡ number = ap (λ x. x .0) s in
-        let f : setOf set ≡ some p = sym (given-set (sym passes) (ap (λ x. x .1) s)) in
-        let constants : p ≡ paramsOf set = rw f in
-        let c = passed (sym passes) in
-        record { passes = passes; checked = c; constants = constants; laws = subst Laws (sym constants) (set-laws (known-so set (c .range))) }
+    pub sampler-admits : {p : Params} → r ≡ Set p → Admits p
+    sampler-admits e = let g = good number set (λ e. passed e .range) r a e in record { checked = passed (sym (g .passes)); found = g }

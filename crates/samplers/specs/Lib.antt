@@ -1,2 +1,1 @@
 pub mod Samplers
-pub mod Answers

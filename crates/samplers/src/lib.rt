@@ -1,4 +1,5 @@
 // The public samplers of a mask in shares. The share count n is stated, since there are no shares to count.
+use gate::Admitted;
 use gate::Answer;
 use gate::clear;
 use gate::finish;
@@ -19,18 +20,12 @@ ghost use Rattle.draws.specs.Draws.{run};
 ghost use Rattle.sample.specs.Sampling.{polynomial};
 ghost use Rattle.gate.specs.Told.{silentRan, ranTold, standsFor};
 ghost use Rattle.gate.specs.Sampler.{samples};
-ghost use Rattle.samplers.specs.Samplers.{sampler, polynomialSampler};
-ghost use Rattle.samplers.specs.Answers.{admittedStandsFor, admission};
-
-// The set that is sampled for, or the number of the first check that fails.
-enum Admitted {
-    Set(Params),
-    Refused(u32),
-}
+ghost use Rattle.gate.specs.Admission.{admittedStandsFor, admission};
+ghost use Rattle.samplers.specs.Samplers.{samplerNumber, sampler, polynomialSampler};
 
 fn admit(n: usize, coefficients: usize, room: usize, set: u32) -> Admitted
     requires { ⌜ coefficients ≤ 256 ⌝ }
-    ensures { λ r. ⌜ admittedStandsFor r ≡ admission n coefficients room set ⌝ }
+    ensures { λ r. ⌜ admittedStandsFor r ≡ admission (samplerNumber n coefficients room set) set ⌝ }
 {
     let Choice::Set(p) = Params::of_set(set) else {
         return Admitted::Refused(first_of_three(n, coefficients, room, false));

@@ -1,5 +1,7 @@
 pub mod SharingLaws
 pub mod MoveLaws
+pub mod FirstLaws
+pub mod OpeningLaws
 pub mod ArraysLaws
 pub mod TurnLaws
 pub mod RefreshLaws

@@ -28,6 +28,13 @@ abbrev pub minus : Sharing → ℕ → ℕ → ℕ
 minus (arithmetic M) = subMod M
 minus (boolean k) = xor
 
+-- r added to share 1, and taken from it
+unfoldable pub addToFirst : Sharing → ℕ → List ℕ → List ℕ
+addToFirst s r xs = change (λ x. plus s x r) 0 xs
+
+unfoldable pub takeFromFirst : Sharing → ℕ → List ℕ → List ℕ
+takeFromFirst s r xs = change (λ x. minus s x r) 0 xs
+
 -- r taken from one share and added to another
 unfoldable pub move : Sharing → (from to : ℕ) → ℕ → List ℕ → List ℕ
 move s from to r xs = change (λ x. minus s x r) from (change (λ x. plus s x r) to xs)

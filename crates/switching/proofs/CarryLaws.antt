@@ -17,7 +17,7 @@ use Rattle.numbers.proofs.SumLaws.{Between, floors-between, sum-back, sum-scale
 use Rattle.draws.specs.Draws.{done, bind}
 use Rattle.draws.proofs.Outcomes.{Gives}
 use Rattle.draws.proofs.PlanLaws.{gives-map}
-use Rattle.shares.specs.Sharing.{arithmetic}
+use Rattle.shares.specs.Sharing.{arithmetic, addToFirst}
 use Rattle.shares.proofs.SharingLaws.{Shares}
 use Rattle.shift.specs.Shift.{shift, shiftPlan}
 use Rattle.shift.proofs.FloorLaws.{shift-floor}
@@ -31,14 +31,14 @@ sum-floors M c p [] = cong-refl
 sum-floors M c p (x ∷ xs) = cong-add cong-mod (sum-floors M c p xs)
 
 sum-raised : (M d : ℕ) (xs : List ℕ) → length xs ≡ suc d → Cong M (sum (raised M xs)) (sum xs + d)
-unfolding raised change addMod sum fold
+unfolding raised addToFirst change addMod sum fold
 sum-raised M d [] e = absurd (omega arith)
 sum-raised M d (x ∷ xs) e =
     let less : suc (length xs) - 1 ≡ d = omega arith in
     via (x + (suc (length xs) - 1) + sum xs) (cong-add cong-mod cong-refl) (cong-eq (omega arith))
 
 raised-words : {n M : ℕ} {xs : List ℕ} → 0 < M → Words n M xs → Words n M (raised M xs)
-unfolding raised addMod
+unfolding raised addToFirst addMod
 raised-words h w = words-change _ 0 w (mod-lt _ h)
 
 floors-words : {n N : ℕ} (M c p : ℕ) {xs : List ℕ} → 0 < M → Words n N xs → Words n M (floors M c p xs)

@@ -2,19 +2,21 @@
 use mathlib.Core.Path.{_≡_, refl, sym, ap, subst, _∙_}
 use mathlib.Core.List.{List}
 use Prim.Native.Nat.{ℕ, _+_, _-_, _*_, _/_, _%_, _^_, _≤_, _<_}
-use native.Mathlib.Nat.{add-comm, mod-lt, mod-eq-of-lt, mul-one, mul-le-mul-right, mul-le-mul-left}
+use native.Mathlib.Nat.{add-comm, mod-lt, mod-eq-of-lt, mul-one, mul-le-mul-right, mul-le-mul-left, mul-lt-mul-of-pos-right, div-lt-iff-lt-mul}
 use native.Mathlib.Omega.{arith}
-use lib.ListN.{length, getD, set, take}
-use lib.Pow.{pow-pos, pow-mono, shr-lt}
+use lib.ListN.{length, getD, take}
+use lib.Pow.{pow-mono, shr-lt}
 use lib.Seq.{getD-take, length-take-le}
-use Rattle.numbers.specs.Modulo.{addMod, subMod}
-use Rattle.numbers.specs.Lists.{Words, change, along}
+use Rattle.numbers.specs.Modulo.{q, subMod}
+use Rattle.numbers.specs.Lists.{Words, along}
 use Rattle.numbers.proofs.Cong.{cong-by, cong-mod, cong-refl, cong-add, _⨾_}
 use Rattle.numbers.proofs.GroupLaws.{sub-only}
-use Rattle.numbers.proofs.WordsLaws.{words-take, take-change}
+use Rattle.numbers.proofs.WordsLaws.{words-take}
 use Rattle.numbers.proofs.AlongLaws.{along-same, take-along, words-along}
 use Rattle.shares.specs.Arrays.{Held}
-use Rattle.shares.proofs.ArraysLaws.{held-below, held-set}
+use Rattle.shares.specs.Sharing.{arithmetic, addToFirst}
+use Rattle.shares.proofs.ArraysLaws.{held-below, held-of}
+use Rattle.shares.proofs.FirstLaws.{added-take, added-words}
 use Rattle.switching.specs.Switching.{floors, raised, without}
 
 -- ---- x − 2^k·e mod m, as x + 2^k·(m − e)
@@ -38,30 +40,42 @@ unfolding without subMod
 without-words M c es h w = words-along _ w (λ i x l b. mod-lt _ h)
 
 -- ---- n - 1 on the first share
-module _ {n M v : ℕ} {fs : List ℕ} (a : Held 8 n M fs) (e : v ≡ addMod M (getD fs 0 0) (n - 1)) where
-  pub raised-held : Held 8 n M (set fs 0 v)
-  unfolding addMod
-  raised-held = held-set a 0 (rw e (mod-lt _ (omega (arith, a .two))))
+module _ {n M : ℕ} {fs : List ℕ} (a : Held 8 n M fs) (fits : n ≤ M) where
+  pub raised-held : Held 8 n M (addToFirst (arithmetic M) (n - 1) fs)
+  raised-held = held-of a (added-words (arithmetic M) (n - 1) (omega (arith, a .two)) (omega (arith, a .least)) (a .all))
 
-  pub raised-take : take n (set fs 0 v) ≡ raised M (take n fs)
-  unfolding raised change
+  pub raised-take : take n (addToFirst (arithmetic M) (n - 1) fs) ≡ raised M (take n fs)
+  unfolding raised
   raised-take =
       let size : length (take n fs) ≡ n = length-take-le n fs (omega (arith, a .most, a .all .size)) in
-      rw e (take-change (λ x. addMod M x (n - 1)) n 0 fs (omega (arith, a .least)) ∙ ap (λ (j : ℕ). change (λ x. addMod M x (j - 1)) 0 (take n fs)) (sym size))
+      added-take (arithmetic M) (n - 1) n fs (omega (arith, a .least)) ∙ ap (λ (j : ℕ). addToFirst (arithmetic M) (j - 1) (take n fs)) (sym size)
 
--- ---- the floors of a conversion to mod Q: they stay below 2^α, so no remainder is needed
-module _ (μ α : ℕ) {n Q : ℕ} {xs : List ℕ} (two : 2 ≤ Q) (a : Held 8 n (2 ^ (μ + α)) xs) where
-  small : {x : ℕ} → x < 2 ^ (μ + α) → x / 2 ^ μ < 2 ^ α * Q
-  small {x} h =
-      let l : x / 2 ^ μ < 2 ^ α = shr-lt α μ (subst (λ (k : ℕ). x < 2 ^ k) (add-comm μ α) h) in
-      omega (arith, mul-le-mul-left (2 ^ α) two)
+-- ---- floors that stay below M need no remainder
+module _ (f : ℕ → ℕ) (c p : ℕ) {n N M : ℕ} {xs : List ℕ} (is : (x : ℕ) → f x ≡ x * c / p) (small : (x : ℕ) → x < N → f x < M) (two : 2 ≤ M) (a : Held 8 n N xs) where
+  pub floors-held : Held 8 n M (along (λ i x. f x) xs)
+  floors-held = held-below a two (words-along _ (a .all) (λ i x l h. small x h))
 
-  pub floors-held : Held 8 n (2 ^ α * Q) (along (λ i x. x / 2 ^ μ) xs)
-  floors-held = held-below a (omega (arith, pow-pos α, mul-le-mul-left (2 ^ α) two)) (words-along _ (a .all) (λ i x l h. small h))
-
-  pub floors-take : take n (along (λ i x. x / 2 ^ μ) xs) ≡ floors (2 ^ α * Q) 1 (2 ^ μ) (take n xs)
+  pub floors-take : take n (along (λ i x. f x) xs) ≡ floors M c p (take n xs)
   unfolding floors
   floors-take =
-      let w : Words n (2 ^ (μ + α)) (take n xs) = words-take n (a .most) (a .all) in
-      take-along (λ i x. x / 2 ^ μ) (λ i x. x / 2 ^ μ) n xs (λ i x l. refl)
-      ∙ along-same _ _ (take n xs) (λ j l. sym (ap (λ (y : ℕ). y / 2 ^ μ % (2 ^ α * Q)) (mul-one (getD (take n xs) j 0)) ∙ mod-eq-of-lt (small (w .below j (omega (arith, w .size))))))
+      let w : Words n N (take n xs) = words-take n (a .most) (a .all) in
+      take-along (λ i x. f x) (λ i x. f x) n xs (λ i x l. refl)
+      ∙ along-same _ _ (take n xs)
+      (λ j l. let x : ℕ = getD (take n xs) j 0 in sym (ap (λ (y : ℕ). y % M) (sym (is x)) ∙ mod-eq-of-lt (small x (w .below j (omega (arith, w .size))))))
+
+-- those of a conversion to mod Q stay below 2^α
+pub quotient-small : (μ α : ℕ) {Q : ℕ} → 2 ≤ Q → (x : ℕ) → x < 2 ^ (μ + α) → x / 2 ^ μ < 2 ^ α * Q
+quotient-small μ α two x h =
+    let l : x / 2 ^ μ < 2 ^ α = shr-lt α μ (subst (λ (k : ℕ). x < 2 ^ k) (add-comm μ α) h) in
+    omega (arith, mul-le-mul-left (2 ^ α) two)
+
+pub quotient-is : (μ x : ℕ) → x / 2 ^ μ ≡ x * 1 / 2 ^ μ
+quotient-is μ x = ap (λ (y : ℕ). y / 2 ^ μ) (sym (mul-one x))
+
+-- and those of shares below p stay below c
+pub scaled-small : (c p : ℕ) {M : ℕ} → 0 < M → c ≤ M → (x : ℕ) → x < p → x * c / p < M
+scaled-small c p {M} pos h x l = div-lt-iff-lt-mul {k = p} {x = x * c} {y = M} (omega arith) .1 (omega (arith, mul-le-mul-left x h, mul-lt-mul-of-pos-right l pos))
+
+-- and the product is one of 64 bits
+pub scaled-fits : {x c : ℕ} → x < q → c < 2 ^ 32 → x * c < 2 ^ 64
+scaled-fits {x} {c} h l = let wide : c ≤ 2 ^ 32 = omega arith in omega (arith, mul-le-mul-left x wide)

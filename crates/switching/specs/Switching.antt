@@ -2,9 +2,10 @@
 use mathlib.Core.List.{List}
 use Prim.Native.Nat.{ℕ, _-_, _*_, _/_, _%_, _^_}
 use lib.ListN.{length, getD}
-use Rattle.numbers.specs.Modulo.{addMod, subMod}
-use Rattle.numbers.specs.Lists.{change, along}
+use Rattle.numbers.specs.Modulo.{subMod}
+use Rattle.numbers.specs.Lists.{along}
 use Rattle.draws.specs.Draws.{Draws}
+use Rattle.shares.specs.Sharing.{arithmetic, addToFirst}
 use Rattle.shift.specs.Shift.{shift}
 
 -- floor(x·c/p) mod M, of each share x
@@ -13,7 +14,7 @@ floors M c p xs = along (λ i x. x * c / p % M) xs
 
 -- n - 1 added to the first share
 unfoldable pub raised : ℕ → List ℕ → List ℕ
-raised M xs = change (λ x. addMod M x (length xs - 1)) 0 xs
+raised M xs = addToFirst (arithmetic M) (length xs - 1) xs
 
 -- n - 1 added to the first share modulo 2^t·m, and then the shift by t, from 2^t·m to m
 unfoldable pub raisedShift : (m t : ℕ) → List ℕ → Draws (List ℕ)

@@ -1,14 +1,15 @@
 use borrow.Author.Needs.{needs}
-use Rattle.samplers.specs.Answers.{admittedStandsFor}
-use Rattle.samplers.proofs.AdmitLaws.{refused-admits, set-admits}
 use mathlib.Core.Path.{_≡_, sym, ap, _∙_}
 use mathlib.Core.Bool.{Bool}
 use mathlib.Core.List.{[]}
 use Prim.Native.Nat.{_*_}
 use Rattle.params.specs.Sets.{known}
 use Rattle.params.proofs.SetLaws.{set-is, set-known, set-unknown}
+use Rattle.gate.specs.Admission.{admittedStandsFor}
 use Rattle.gate.specs.Checks.{firstFailing, checksOf}
+use Rattle.gate.proofs.AdmitLaws.{refused-admits, set-admits}
 use Rattle.gate.proofs.CheckLaws.{fails-out}
+use Rattle.samplers.specs.Samplers.{samplerNumber}
 use Rattle.samplers.proofs.admit.Statement.{statement}
 use Rattle.samplers.proofs.admit.Tie as tie
 
@@ -42,7 +43,7 @@ returns c =
     let o = e .before .before in
     let a = o .before .args in
     let f = set-unknown _ _ (o .of-set .ensures) (e .enum-told .given .1) in
-    refused-admits (a .n) (a .coefficients) (a .room) (a .set)
+    refused-admits (samplerNumber (a .n) (a .coefficients) (a .room) (a .set)) (a .set)
     (c .first-of-three .ensures ∙ ap (λ (b : Bool). firstFailing (checksOf (a .n) (a .room) (a .coefficients * a .n) b [])) (sym f)) (fails-out _ _ _ _ (c .first-of-three .ensures))
 
 first-of-three-requires-2 : tie.Need-first-of-three-requires-2
@@ -50,7 +51,7 @@ first-of-three-requires-2 c κs = search needs
 
 returns-2 : tie.Need-returns-2
 unfolding admittedStandsFor
-returns-2 c = let a = c .before .before .before .before .before .before .args in refused-admits (a .n) (a .coefficients) (a .room) (a .set) (found (c .before)) (c .if1 .taken)
+returns-2 c = let a = c .before .before .before .before .before .before .args in refused-admits (samplerNumber (a .n) (a .coefficients) (a .room) (a .set)) (a .set) (found (c .before)) (c .if1 .taken)
 
 returns-3 : tie.Need-returns-3
 unfolding admittedStandsFor
@@ -58,7 +59,7 @@ returns-3 c =
     let p = c .before .before .before in
     let o = p .before .before in
     let a = o .before .args in
-    set-admits (a .n) (a .coefficients) (a .room) (a .set) (sym (c .if1 .left) ∙ found (c .before)) (set-is _ _ (o .of-set .ensures) (p .p .given .1))
+    set-admits (samplerNumber (a .n) (a .coefficients) (a .room) (a .set)) (a .set) (sym (c .if1 .left) ∙ found (c .before)) (set-is _ _ (o .of-set .ensures) (p .p .given .1))
 
 pub admit-spec : {M : Type 1} → statement M
 admit-spec =

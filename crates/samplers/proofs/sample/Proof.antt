@@ -13,7 +13,7 @@ use Rattle.shares.specs.Arrays.{shared}
 use Rattle.gate.proofs.GadgetLaws.{sampler-refused, sampler-ran}
 use Rattle.sample.specs.Sampling.{coefficient}
 use Rattle.samplers.specs.Samplers.{sampler}
-use Rattle.samplers.proofs.AdmitLaws.{not-admitted, Good, good}
+use Rattle.samplers.proofs.AdmitLaws.{sampler-refuses, Admits, sampler-admits}
 use Rattle.samplers.proofs.sample.Statement.{statement}
 use Rattle.samplers.proofs.sample.Tie as tie
 
@@ -21,8 +21,8 @@ use Rattle.samplers.proofs.sample.Tie as tie
 admitted : (c : tie.After-p) →
     let m = c .before .before in
     let a = m .before .before .before .args in
-    Good (a .n) 1 (length (now (a .out))) (a .set) (m .admit .result) (m .admit .ensures) (c .p .given .0 .0)
-admitted c = good _ _ _ _ _ _ (c .p .given .1)
+    Admits (a .n) 1 (length (now (a .out))) (a .set) (m .admit .result) (m .admit .ensures) (c .p .given .0 .0)
+admitted c = sampler-admits _ _ _ _ _ _ (c .p .given .1)
 
 admit-requires : tie.Need-admit-requires
 admit-requires c κs = search needs
@@ -40,7 +40,7 @@ start-requires : tie.Need-start-requires
 start-requires c κs = search needs
 
 coefficient-requires : tie.Need-coefficient-requires
-coefficient-requires c κs = let g = admitted (c .before .before) in (g .laws, g .checked .least, g .checked .most)
+coefficient-requires c κs = let g = admitted (c .before .before) in (g .found .laws, g .checked .least, g .checked .most)
 
 finish-requires : tie.Need-finish-requires
 finish-requires c κs = let g = admitted (c .before .before .before .before) in omega (arith, g .checked .fits, g .checked .most)
@@ -50,7 +50,7 @@ unfolding sampler
 returns c =
     let k = c .before .before in
     let m = k .before .before in
-    let (e, h) = not-admitted _ _ _ _ _ (m .admit .ensures) (k .number .given .1) in
+    let (e, h) = sampler-refuses _ _ _ _ _ (m .admit .ensures) (k .number .given .1) in
     sampler-refused _ _ _ _ e h (c .refused .ensures _)
 
 same-length : tie.Need-same-length
@@ -64,10 +64,10 @@ returns-2 c =
     let p = k .before .before .before in
     let a = p .before .before .before .before .before .args in
     let g = admitted p in
-    sampler-ran _ _ _ _ (g .passes) (f .finish .ensures)
+    sampler-ran _ _ _ _ (g .found .passes) (f .finish .ensures)
     (ap (λ (m : ℕ). shared m (k .coefficient .result)) (g .checked .fits ∙ one-mul (a .n))
     ∙ k .coefficient .ensures .is
-    ∙ ap₂ (λ (q : Params) (d : Cursor). run (coefficient q (a .n)) (now (a .tape)) d) (g .constants) (k .before .start .ensures))
+    ∙ ap₂ (λ (q : Params) (d : Cursor). run (coefficient q (a .n)) (now (a .tape)) d) (g .found .constants) (k .before .start .ensures))
 
 pub sample-spec : {M : Type 1} → statement M
 sample-spec =

@@ -8,7 +8,7 @@ use Rattle.draws.specs.Draws.{run}
 use Rattle.gate.proofs.GadgetLaws.{sampler-refused, sampler-ran}
 use Rattle.sample.specs.Sampling.{polynomial}
 use Rattle.samplers.specs.Samplers.{polynomialSampler}
-use Rattle.samplers.proofs.AdmitLaws.{not-admitted, Good, good}
+use Rattle.samplers.proofs.AdmitLaws.{sampler-refuses, Admits, sampler-admits}
 use Rattle.samplers.proofs.sample_polynomial.Statement.{statement}
 use Rattle.samplers.proofs.sample_polynomial.Tie as tie
 
@@ -16,8 +16,8 @@ use Rattle.samplers.proofs.sample_polynomial.Tie as tie
 admitted : (c : tie.After-p) →
     let m = c .before .before in
     let a = m .before .before .before .args in
-    Good (a .n) 256 (length (now (a .out))) (a .set) (m .admit .result) (m .admit .ensures) (c .p .given .0 .0)
-admitted c = good _ _ _ _ _ _ (c .p .given .1)
+    Admits (a .n) 256 (length (now (a .out))) (a .set) (m .admit .result) (m .admit .ensures) (c .p .given .0 .0)
+admitted c = sampler-admits _ _ _ _ _ _ (c .p .given .1)
 
 admit-requires : tie.Need-admit-requires
 admit-requires c κs = search needs
@@ -32,14 +32,14 @@ enum-known-p : tie.Need-enum-known-p
 enum-known-p c = search needs
 
 fill-requires : tie.Need-fill-requires
-fill-requires c κs = let g = admitted (c .before .before) in (g .laws, g .checked .least, g .checked .most, g .checked .fits)
+fill-requires c κs = let g = admitted (c .before .before) in (g .found .laws, g .checked .least, g .checked .most, g .checked .fits)
 
 returns : tie.Need-returns
 unfolding polynomialSampler
 returns c =
     let k = c .before .before in
     let m = k .before .before in
-    let (e, h) = not-admitted _ _ _ _ _ (m .admit .ensures) (k .number .given .1) in
+    let (e, h) = sampler-refuses _ _ _ _ _ (m .admit .ensures) (k .number .given .1) in
     sampler-refused _ _ _ _ e h (c .refused .ensures _)
 
 same-length : tie.Need-same-length
@@ -52,7 +52,7 @@ returns-2 c =
     let p = f .before .before .before in
     let a = p .before .before .before .before .before .args in
     let g = admitted p in
-    sampler-ran _ _ _ _ (g .passes) (f .fill .ensures) (ap (λ (q : Params). run (polynomial q (a .n) (now (a .out))) (now (a .tape)) start) (g .constants))
+    sampler-ran _ _ _ _ (g .found .passes) (f .fill .ensures) (ap (λ (q : Params). run (polynomial q (a .n) (now (a .out))) (now (a .tape)) start) (g .found .constants))
 
 pub sample-polynomial-spec : {M : Type 1} → statement M
 sample-polynomial-spec =

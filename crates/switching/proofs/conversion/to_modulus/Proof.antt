@@ -1,6 +1,6 @@
 use borrow.Author.Needs.{needs}
 use mathlib.Core.Path.{refl, ap, _∙_}
-use Prim.Native.Nat.{_+_, _*_, _^_, _≤_}
+use Prim.Native.Nat.{_+_, _*_, _/_, _^_, _≤_}
 use native.Mathlib.Nat.{le-trans, mul-le-mul-left}
 use native.Mathlib.Omega.{arith}
 use lib.ListN.{length, take}
@@ -14,7 +14,7 @@ use Rattle.draws.specs.Draws.{run}
 use Rattle.shares.specs.Arrays.{Held, Gave}
 use Rattle.shares.proofs.ArraysLaws.{held-below, given-as, gave, stopped, whole, cut-off}
 use Rattle.switching.specs.Switching.{raisedShift, carries}
-use Rattle.switching.proofs.StepLaws.{floors-held, floors-take, without-take, without-words}
+use Rattle.switching.proofs.StepLaws.{floors-held, floors-take, quotient-small, quotient-is, without-take, without-words}
 use Rattle.switching.proofs.SwitchLaws.{convert-ended, carries-ended, switched}
 use Rattle.switching.proofs.conversion.to_modulus.Statement.{statement}
 use Rattle.switching.proofs.conversion.to_modulus.Tie as tie
@@ -38,6 +38,9 @@ enough c =
     let l : s .args .n ≤ 2 ^ c .alpha .result = rw (c .alpha .ensures) (alpha-smallest (s .args .n) .holds) in
     omega (arith, mul-le-mul-left (2 ^ c .alpha .result) (s .pre .1))
 
+room : (c : tie.After-alpha) → 2 ≤ 2 ^ c .alpha .result * c .before .before .args .modulus
+room c = let s = c .before .before in omega (arith, enough c, s .pre .3 .least)
+
 -- what the conversion mod 2^k gave
 held-x : (c : tie.Else1) →
     let t = c .before .before in
@@ -59,7 +62,7 @@ carried c =
     let s = t .before .before .before in
     let α = t .before .alpha .result in
     given-as (c .raised-shift .ensures) (ap (λ fs. run (raisedShift (s .args .modulus) α fs) (now (s .args .tape)) (t .to-arithmetic .result .cursor))
-    (ap (take (s .args .n)) (c .before .quotients .ensures) ∙ floors-take _ _ (s .pre .1) (held-x e)))
+    (ap (take (s .args .n)) (c .before .quotients .ensures) ∙ floors-take (λ x. x / 2 ^ s .args .mu) 1 (2 ^ s .args .mu) (quotient-is _) (quotient-small _ _ (s .pre .1)) (room (t .before)) (held-x e)))
 
 alpha-requires : tie.Need-alpha-requires
 alpha-requires c κs = search needs
@@ -87,7 +90,7 @@ raised-shift-requires c κs =
     let e = c .before .before .before in
     let a = e .before .before .before in
     let p = a .before .before .pre in
-    (omega (arith, short a), p .1, rw (a .alpha .ensures) (p .2), enough a, rw (c .quotients .ensures) (floors-held _ _ (p .1) (held-x e)))
+    (omega (arith, short a), p .1, rw (a .alpha .ensures) (p .2), enough a, rw (c .quotients .ensures) (floors-held (λ x. x / 2 ^ a .before .before .args .mu) 1 (2 ^ a .before .before .args .mu) (quotient-is _) (quotient-small _ _ (p .1)) (room a) (held-x e)))
 
 ended-requires-2 : tie.Need-ended-requires-2
 ended-requires-2 c κs = search needs

@@ -1,0 +1,2 @@
+pub mod AdmitLaws
+pub mod TellLaws

@@ -1,0 +1,3 @@
+pub mod Decompose
+pub mod Answers
+pub mod Plain

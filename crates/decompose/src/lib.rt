@@ -1,0 +1,75 @@
+// Decompose of shares modulo q: the high part is opened, the low part stays shared.
+use params::Params;
+use shares::Shared;
+use shares::add_to_first;
+use shares::opened;
+use shares::refresh;
+use shares::take_from_first;
+use switching::carries_by_q;
+use tape::Cursor;
+use words::alpha;
+use words::power;
+ghost use mathlib.Core.Path.{_≡_};
+ghost use Prim.Native.Nat.{_<_};
+ghost use lib.ListN.{take};
+ghost use Rattle.numbers.specs.Modulo.{q};
+ghost use Rattle.numbers.specs.Lists.{Words};
+ghost use Rattle.params.specs.Laws.{Laws};
+ghost use Rattle.draws.specs.Draws.{run};
+ghost use Rattle.shares.specs.Arrays.{Held, Gave};
+ghost use Rattle.decompose.specs.Decompose.{highShares, highPart, lowShares};
+ghost use Rattle.decompose.specs.Answers.{highStandsFor};
+
+// The high part and the place of the next word, or that the tape has ended.
+pub enum High {
+    Opened(u32, Cursor),
+    Ended,
+}
+
+// Shares of the high part modulo delta. Gamma2 goes onto a copy: the low part is taken from the input.
+fn high_shares(
+    shares: [u32; Params::MOST],
+    n: usize,
+    p: Params,
+    cursor: Cursor,
+    tape: &[u32],
+) -> Shared
+    requires { ⌜ Laws p × Held 8 n q shares ⌝ }
+    ensures { λ r. ⌜ Gave n (p .delta) r (run (highShares p (take n shares)) (now (tape .entry)) cursor) ⌝ }
+{
+    let x = add_to_first(shares, p.gamma2, Params::Q);
+    let t = 23 + alpha(n);
+    carries_by_q(x, n, p.delta * power(t), p.delta, t, cursor, tape)
+}
+
+pub fn high_part(
+    shares: [u32; Params::MOST],
+    n: usize,
+    p: Params,
+    cursor: Cursor,
+    tape: &[u32],
+) -> High
+    requires { ⌜ Laws p × Held 8 n q shares ⌝ }
+    ensures { λ r. ⌜ highStandsFor r ≡ run (highPart p (take n shares)) (now (tape .entry)) cursor ⌝ }
+{
+    let shared = high_shares(shares, n, p, cursor, tape);
+    if !shared.ok {
+        return High::Ended;
+    }
+    let x = shared.words;
+    let c = shared.cursor;
+    let refreshed = refresh(x, n, p.delta, c, tape);
+    if !refreshed.ok {
+        return High::Ended;
+    }
+    let y = refreshed.words;
+    let after = refreshed.cursor;
+    High::Opened(opened(y, n, p.delta), after)
+}
+
+pub fn low_shares(shares: [u32; Params::MOST], p: Params, high: u32) -> [u32; Params::MOST]
+    requires { ⌜ Laws p × (high < p .delta) × Words 8 q shares ⌝ }
+    ensures { λ r. ⌜ r ≡ lowShares p high shares ⌝ }
+{
+    take_from_first(shares, 2 * p.gamma2 * high, Params::Q)
+}

@@ -1,0 +1,142 @@
+use borrow.Author.Needs.{needs}
+use mathlib.Core.Path.{_≡_, refl, sym, ap, ap₂, _∙_}
+use Prim.Native.Nat.{_+_, _*_, _^_, _≤_}
+use native.Mathlib.Omega.{arith}
+use lib.Pow.{pow-pos}
+use lib.ListN.{length, take}
+use borrow.Author.Tests.{not-false}
+use denote.Ref.{now}
+use Rattle.numbers.specs.Modulo.{q}
+use Rattle.numbers.specs.Bits.{alpha}
+use Rattle.params.proofs.RoomLaws.{alpha-most, rho-most, wraps-least, reach-below, wraps-room}
+use Rattle.draws.specs.Draws.{run}
+use Rattle.shares.specs.Arrays.{Held, Gave}
+use Rattle.shares.specs.Sharing.{arithmetic, addToFirst, takeFromFirst}
+use Rattle.shares.proofs.ArraysLaws.{held-of, gave, stopped, whole, cut-off}
+use Rattle.switching.specs.Switching.{carries, without}
+use Rattle.switching.proofs.StepLaws.{without-words}
+use Rattle.widening.specs.Widening.{wide, widened}
+use Rattle.widening.proofs.StepLaws.{offset-words, reach-wide, widened-words, floors-room, count-room, widen-ended, widen-ran}
+use Rattle.widening.proofs.widen.Reads as reads
+use Rattle.widening.proofs.widen.Lts as lts
+use Rattle.widening.proofs.widen.Statement.{statement}
+use Rattle.widening.proofs.widen.Tie as tie
+use Rattle.shares.proofs.Shared.ended.Reads as ended-reads
+use Rattle.shares.proofs.add_to_first.Reads as add-to-first-reads
+use Rattle.shares.proofs.take_from_first.Reads as take-from-first-reads
+use Rattle.switching.proofs.carries_by_q.Reads as carries-by-q-reads
+use Rattle.widening.proofs.wide.Reads as wide-reads
+use Rattle.widening.proofs.without_wraps.Reads as without-wraps-reads
+use Rattle.words.proofs.alpha.Reads as alpha-reads
+use Rattle.words.proofs.power.Reads as power-reads
+
+fit : (c : tie.After-alpha) → let s = c .before .before .before in s .args .n ≤ length (s .args .shares)
+fit c = let s = c .before .before .before in omega (arith, s .pre .1 .most, s .pre .1 .all .size)
+
+-- the shares with b added
+offset : (c : tie.After-alpha) → Held 8 (c .before .before .before .args .n) q (c .before .add-to-first .result)
+offset c = let p = c .before .before .before .pre in rw (c .before .add-to-first .ensures) (held-of (p .1) (offset-words (p .0) (p .1 .all)))
+
+-- their carries
+carried : (c : tie.After-carries-by-q) →
+    let a = c .before .before .before in
+    let s = a .before .before .before in
+    let t = a .alpha .result + 1 in
+    let ys = addToFirst (arithmetic q) (s .args .k .b) (s .args .shares) in
+    Gave (s .args .n) (2 ^ s .args .k .rho) (c .carries-by-q .result) (run (carries (2 ^ s .args .k .rho) t (2 ^ t) q (take (s .args .n) ys)) (now (s .args .tape)) (s .args .cursor))
+carried c =
+    let a = c .before .before .before in
+    rw (sym (c .before .before .power .ensures), sym (c .before .power2 .ensures), sym (a .before .add-to-first .ensures)) (c .carries-by-q .ensures)
+
+-- and what is made of them
+result : (c : tie.After-take-from-first) →
+    let y = c .before .before .before .before .before .before .before in
+    let s = y .before .before .before .before .before .before in
+    let k = s .args .k in
+    c .take-from-first .result ≡ takeFromFirst (widened k) (k .b) (without (wide k) q (y .carries-by-q .result .words) (addToFirst (arithmetic q) (k .b) (s .args .shares)))
+result c =
+    let w = c .before .before in
+    let y = w .before .before .before .before .before in
+    let x = y .before .before .before .before in
+    let k = x .before .before .args .k in
+    c .take-from-first .ensures
+    ∙ ap (takeFromFirst (arithmetic (w .wide .result)) (k .b)) (c .before .without-wraps .ensures)
+    ∙ ap₂ (λ m ys. takeFromFirst (arithmetic m) (k .b) (without m q (y .carries-by-q .result .words) ys)) (w .wide .ensures) (x .add-to-first .ensures)
+
+few : (c : tie.After-alpha) → c .alpha .result ≤ 3
+few c = rw (c .alpha .ensures) (alpha-most _ (c .before .before .before .pre .1 .most))
+
+add-to-first-requires : tie.Need-add-to-first-requires
+add-to-first-requires c κs = let p = c .before .pre in (reach-below (p .0), p .1 .all)
+
+alpha-requires : tie.Need-alpha-requires
+alpha-requires c κs = let p = c .before .before .pre in (p .1 .least, p .1 .most)
+
+add-t : tie.Need-add-t
+add-t c = omega (arith, c .alpha .ensures, few c)
+
+power-requires : tie.Need-power-requires
+power-requires c κs = omega (arith, rho-most (c .before .before .before .pre .0))
+
+power-requires-2 : tie.Need-power-requires-2
+power-requires-2 c κs = omega (arith, few (c .before))
+
+carries-by-q-requires : tie.Need-carries-by-q-requires
+carries-by-q-requires c κs = let a = c .before .before in
+    let (r, h) = a .before .before .before .pre in
+    rw (c .before .power .ensures, c .power2 .ensures, a .alpha .ensures)
+    (omega (arith, alpha-most _ (h .most)), wraps-least r, wraps-room r _ (h .most), count-room r _, floors-room r _, offset a)
+
+ended-requires : tie.Need-ended-requires
+ended-requires c κs = search needs
+
+returns : tie.Need-returns
+returns c = let y = c .before .before .before in
+    let a = y .before .before .before in
+    let s = a .before .before .before in
+    cut-off (c .ended .ensures) (widen-ended _ _ _ _ (omega (arith, s .pre .1 .least)) (fit a) (ap (λ j. j + 1) (a .alpha .ensures)) (stopped (carried y) (c .before .if1 .taken)))
+
+wide-requires : tie.Need-wide-requires
+wide-requires c κs = c .before .before .before .before .before .before .before .before .before .before .pre .0
+
+without-wraps-requires : tie.Need-without-wraps-requires
+without-wraps-requires c κs = let e = c .before .before .before in
+    let y = e .before .before in
+    let w = y .before .before in
+    let a = w .before in
+    let r = a .before .before .before .pre .0 in
+    (c .wide .ensures ∙ ap (λ p. p * q) (sym (w .power .ensures)), rw (w .power .ensures) (pow-pos (a .before .before .before .args .k .rho)), offset a .all, y .carries-by-q .ensures .below (not-false _ (e .if1 .left)))
+
+take-from-first-requires : tie.Need-take-from-first-requires
+take-from-first-requires c κs = let e = c .before .before .before .before in
+    let a = e .before .before .before .before .before in
+    let r = a .before .before .before .pre .0 in
+    rw (c .without-wraps .ensures, c .before .wide .ensures) (reach-wide r, without-words _ q _ (omega (arith, reach-wide r)) (offset a .all))
+
+returns-2 : tie.Need-returns-2
+returns-2 c = let v = c .before in
+    let e = v .before .before .before .before in
+    let y = e .before .before in
+    let a = y .before .before .before in
+    let s = a .before .before .before in
+    let r = s .pre .0 in
+    let is = result c in
+    whole refl (rw is (widened-words r _ (offset-words r (s .pre .1 .all))))
+    (widen-ran _ _ _ _ (omega (arith, s .pre .1 .least)) (fit a) (ap (λ j. j + 1) (a .alpha .ensures)) _ (gave (carried y) (e .if1 .left)) is)
+
+pub widen-spec : {M : Type 1} → statement M
+widen-spec =
+    tie.close
+    (tie.spec
+    add-to-first-requires
+    alpha-requires
+    add-t
+    power-requires
+    power-requires-2
+    carries-by-q-requires
+    ended-requires
+    returns
+    wide-requires
+    without-wraps-requires
+    take-from-first-requires
+    returns-2)

@@ -1,0 +1,73 @@
+// Widening: shares of a small number modulo q become shares of the same number modulo 2^rho·q, which the verdict can shift.
+use params::Bounds;
+use params::Params;
+use shares::Shared;
+use shares::add_to_first;
+use shares::take_from_first;
+use switching::carries_by_q;
+use tape::Cursor;
+use words::alpha;
+use words::power;
+use words::sub_mod;
+ghost use mathlib.Core.Path.{_≡_};
+ghost use Prim.Native.Nat.{_*_, _≤_, _<_};
+ghost use lib.ListN.{take};
+ghost use Rattle.numbers.specs.Modulo.{q};
+ghost use Rattle.numbers.specs.Lists.{Words};
+ghost use Rattle.params.specs.Laws.{Reached};
+ghost use Rattle.draws.specs.Draws.{run};
+ghost use Rattle.shares.specs.Arrays.{Held, Gave};
+ghost use Rattle.switching.specs.Switching.{without};
+ghost use Rattle.widening.specs.Widening.{wide, widen};
+
+// The modulus 2^rho·q of the widened shares.
+pub fn wide(k: Bounds) -> u32
+    requires { ⌜ Reached k ⌝ }
+    ensures { λ r. ⌜ r ≡ wide k ⌝ }
+{
+    power(k.rho) * Params::Q
+}
+
+// x − q·e mod m of each word x and its carry e. With x below q and e below 2^rho, both x and q·e are below m = 2^rho·q, so this needs no remainder.
+fn without_wraps(
+    shares: [u32; Params::MOST],
+    carries: [u32; Params::MOST],
+    wraps: u32,
+    m: u32,
+) -> [u32; Params::MOST]
+    requires { ⌜ (m ≡ wraps * q) × (1 ≤ wraps) × Words 8 q shares × Words 8 wraps carries ⌝ }
+    ensures { λ r. ⌜ r ≡ without m q carries shares ⌝ }
+{
+    let mut words = shares;
+    for i in 0..Params::MOST {
+        words[i] = sub_mod(words[i], Params::Q * carries[i], m);
+    }
+    words
+}
+
+pub fn widen(
+    shares: [u32; Params::MOST],
+    n: usize,
+    k: Bounds,
+    cursor: Cursor,
+    tape: &[u32],
+) -> Shared
+    requires { ⌜ Reached k × Held 8 n q shares ⌝ }
+    ensures { λ r. ⌜ Gave n (wide k) r (run (widen k (take n shares)) (now (tape .entry)) cursor) ⌝ }
+{
+    let x = add_to_first(shares, k.b, Params::Q);
+    let t = alpha(n) + 1;
+    let wraps = power(k.rho);
+    let carries = carries_by_q(x, n, power(t), wraps, t, cursor, tape);
+    if !carries.ok {
+        return Shared::ended();
+    }
+    let e = carries.words;
+    let after = carries.cursor;
+    let m = wide(k);
+    Shared {
+        words: take_from_first(without_wraps(x, e, wraps, m), k.b, m),
+        cursor: after,
+        ok: true,
+    }
+}
