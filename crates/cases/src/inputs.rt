@@ -1,4 +1,7 @@
 // The shares that a round calls with, and the room for the output.
+use super::aims::value;
+use super::parameters::Pair;
+use super::parameters::bound;
 use super::tally::step;
 
 // The difference, or 0 if there is none.
@@ -87,7 +90,7 @@ fn without(gadget: u32, x: u32, share: u32, m: u32) -> u32 {
 }
 
 // The last share becomes what the others leave of the value.
-fn complete(gadget: u32, shares: &mut [u32], value: u32, m: u32) {
+pub fn complete(gadget: u32, shares: &mut [u32], value: u32, m: u32) {
     if shares.len() == 0 {
         return;
     }
@@ -99,20 +102,11 @@ fn complete(gadget: u32, shares: &mut [u32], value: u32, m: u32) {
     shares[last] = left;
 }
 
-// Values at which a step is likely to go wrong.
-fn value(largest: u32, r: u32) -> u32 {
-    match r / 3 % 3 {
-        0 => 0,
-        1 => 1,
-        _ => largest,
-    }
-}
-
-// In every third round the shares have such a value.
-fn aim(gadget: u32, shares: &mut [u32], m: u32, r: u32) {
+// In every third round the shares have a value that is aimed at.
+fn aim(gadget: u32, p: Pair, shares: &mut [u32], m: u32, r: u32, x: u32) {
     if r % 3 == 1 {
         if 2 <= m {
-            complete(gadget, shares, value(m - 1, r), m);
+            complete(gadget, shares, value(gadget, p, m - 1, r, x), m);
         }
     }
 }
@@ -126,9 +120,10 @@ fn spoil(shares: &mut [u32], m: u32, r: u32) {
     }
 }
 
-// Fills the shares, which are below m, for a round.
-pub fn fill_shares(gadget: u32, shares: &mut [u32], m: u32, r: u32, x: u32) {
+// Fills the shares for a round.
+pub fn fill_shares(gadget: u32, p: Pair, shares: &mut [u32], r: u32, x: u32) {
+    let m = bound(gadget, p.first);
     fill(shares, m, x);
-    aim(gadget, shares, m, r);
+    aim(gadget, p, shares, m, r, x);
     spoil(shares, m, r);
 }

@@ -1,16 +1,22 @@
 // Runs the public gadgets on the hand cases and on many pseudo-random calls, and prints for each gadget and share count how often
 // each number was answered and a checksum of everything answered. docs/CASES.md says which calls are made.
+mod aims;
 mod calls;
 mod far;
 mod inputs;
 mod parameters;
+mod parts;
+mod rounds;
+mod sets;
 mod tally;
+mod tapes;
 
 use parameters::Pair;
 use params::Params;
 use tally::Tally;
 use tape::Cursor;
 use tape::Draw;
+ghost use Prim.Native.Nat.{_≤_};
 
 fn text(s: &[u8]) {
     io::write_all(1, s);
@@ -71,7 +77,7 @@ fn told(t: Tally) {
 }
 
 fn line(gadget: u32, n: usize) {
-    let t = calls::all_rounds(gadget, n);
+    let t = rounds::all_rounds(gadget, n);
     calls::name(gadget);
     number(tally::low(n));
     told(t);
@@ -90,11 +96,36 @@ fn far_line(gadget: u32) {
     told(t);
 }
 
+fn parts_line(n: usize, residue: u32)
+    requires { ⌜ n ≤ 8 ⌝ }
+{
+    let told = parts::decomposed(residue, n);
+    text(b"decompose");
+    number(tally::low(n));
+    number(residue);
+    number(told.number);
+    number(told.high);
+    number(told.low);
+    text(b"\n");
+}
+
+// Document 01's cases of Decompose, in shares.
+fn parts_by_hand() {
+    for n in 2..9 {
+        parts_line(n, 95232);
+        parts_line(n, 95233);
+        parts_line(n, 8380416);
+        parts_line(n, 8285185);
+        parts_line(n, 8285184);
+    }
+}
+
 fn main() {
     by_hand();
-    for gadget in 1..9 {
+    for gadget in 1..11 {
         lines(gadget);
     }
     far_line(7);
     far_line(8);
+    parts_by_hand();
 }

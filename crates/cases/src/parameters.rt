@@ -1,4 +1,7 @@
 // The parameters that a round calls with.
+use super::sets::set;
+use super::sets::set_and_kind;
+use params::Params;
 use words::power;
 
 // A gadget's parameters; the second is 0 where it has but one.
@@ -52,34 +55,6 @@ fn mu(r: u32, x: u32) -> u32 {
     }
 }
 
-// Numbers that are no parameter set, some of them one in fewer bits.
-fn no_set(i: u32) -> u32 {
-    match i {
-        0 => 0,
-        1 => 1,
-        2 => 43,
-        3 => 45,
-        4 => 64,
-        5 => 66,
-        6 => 86,
-        7 => 88,
-        8 => 300,
-        9 => 65601,
-        10 => 2147483735,
-        _ => 4294967295,
-    }
-}
-
-fn set(r: u32, x: u32) -> u32 {
-    match r % 8 {
-        0 | 3 => 44,
-        1 | 4 => 65,
-        2 | 5 => 87,
-        6 => no_set(r / 8 % 12),
-        _ => x,
-    }
-}
-
 // The modulus odd times 2^j, and j.
 fn times_power(odd: u32, j: u32) -> Pair {
     Pair::of(odd << (j % 32), j)
@@ -104,6 +79,7 @@ pub fn parameters(gadget: u32, r: u32, x: u32) -> Pair {
         3 => modulus_and_t(r, x),
         6 => Pair::of(mu(r, x), 0),
         7 | 8 => Pair::of(set(r, x), 0),
+        9 | 10 => set_and_kind(r, x),
         _ => Pair::of(width(r, x), 0),
     }
 }
@@ -112,6 +88,7 @@ pub fn parameters(gadget: u32, r: u32, x: u32) -> Pair {
 pub fn bound(gadget: u32, a: u32) -> u32 {
     match gadget {
         1 | 3 => a,
+        9 | 10 => Params::Q,
         _ => power(a % 32),
     }
 }

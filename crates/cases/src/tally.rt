@@ -1,5 +1,6 @@
 // What is kept of the answers: how often each number came, and a checksum.
 use gadgets::Answer;
+use gadgets::Decomposed;
 
 pub struct Tally {
     pub counts: [u32; 6],
@@ -50,14 +51,20 @@ pub fn counted(counts: [u32; 6], number: u32) -> [u32; 6] {
     next
 }
 
+// What an answer adds: `head` is the checksum with all that comes before the words used.
+fn kept(t: Tally, number: u32, head: u32, used: usize, out: &[u32]) -> Tally {
+    let before = t.counts;
+    let counts = counted(before, number);
+    let sum = mix_all(mix(head, low(used)), out);
+    Tally { counts, sum, used }
+}
+
 // An answer, and everything in the room for its output.
 pub fn noted(t: Tally, a: Answer, out: &[u32]) -> Tally {
-    let before = t.counts;
-    let counts = counted(before, a.number);
-    let sum = mix_all(mix(mix(t.sum, a.number), low(a.used)), out);
-    Tally {
-        counts,
-        sum,
-        used: a.used,
-    }
+    kept(t, a.number, mix(t.sum, a.number), a.used, out)
+}
+
+// The same for Decompose, with the high part.
+pub fn noted_parts(t: Tally, d: Decomposed, out: &[u32]) -> Tally {
+    kept(t, d.number, mix(mix(t.sum, d.number), d.high), d.used, out)
 }

@@ -1,9 +1,8 @@
 //! The conversions of document 01, without their closing refreshes.
 
+use crate::sets::Q;
 use crate::steps::{halving, refreshed_xor, shift_by, value};
 use crate::tape::Tape;
-
-pub const Q: u64 = 8380417;
 
 /// What Boolean shares recombine to.
 fn boolean_value(shares: &[u64]) -> u64 {

@@ -1,9 +1,11 @@
 //! The calls of docs/CASES.md.
 
 use crate::library::{self, Answer};
-
-/// A gadget's parameters; the second is 0 where it has but one.
-type Pair = (u32, u32);
+use crate::parameters::{
+    decompose_edges, ends, modulus, modulus_and_t, narrow_width, power, set, set_and_kind, widening_edges, width, Aim,
+    Pair,
+};
+use crate::sets::Q;
 
 pub struct Input {
     /// The share count; a sampler is told it, and has no shares.
@@ -40,6 +42,9 @@ pub struct Gadget {
     parameters: fn(u32, u32) -> Pair,
     bound: fn(u32) -> u32,
     shares: Shares,
+    aim: fn(&Aim) -> u32,
+    /// How many words the further tapes have, beside those of all gadgets.
+    cuts: fn(usize, usize) -> Vec<usize>,
     call: fn(&Input, &[u32]) -> Answer,
 }
 
@@ -50,6 +55,8 @@ pub const REFRESH: Gadget = Gadget {
     parameters: modulus,
     bound: |m| m,
     shares: Shares::Arithmetic,
+    aim: ends,
+    cuts: no_cuts,
     call: |input, tape| library::refresh(&input.shares, tape, input.parameters.0, input.room),
 };
 
@@ -60,6 +67,8 @@ pub const REFRESH_BOOLEAN: Gadget = Gadget {
     parameters: width,
     bound: power,
     shares: Shares::Boolean,
+    aim: ends,
+    cuts: no_cuts,
     call: |input, tape| library::refresh_boolean(&input.shares, tape, input.parameters.0, input.room),
 };
 
@@ -70,6 +79,8 @@ pub const SHIFT: Gadget = Gadget {
     parameters: modulus_and_t,
     bound: |m| m,
     shares: Shares::Arithmetic,
+    aim: ends,
+    cuts: no_cuts,
     call: |input, tape| library::shift(&input.shares, tape, input.parameters.0, input.parameters.1, input.room),
 };
 
@@ -80,6 +91,8 @@ pub const TO_BOOLEAN: Gadget = Gadget {
     parameters: width,
     bound: power,
     shares: Shares::Arithmetic,
+    aim: ends,
+    cuts: no_cuts,
     call: |input, tape| library::to_boolean(&input.shares, tape, input.parameters.0, input.room),
 };
 
@@ -90,6 +103,8 @@ pub const TO_ARITHMETIC: Gadget = Gadget {
     parameters: width,
     bound: power,
     shares: Shares::Boolean,
+    aim: ends,
+    cuts: no_cuts,
     call: |input, tape| library::to_arithmetic(&input.shares, tape, input.parameters.0, input.room),
 };
 
@@ -100,6 +115,8 @@ pub const TO_MOD_Q: Gadget = Gadget {
     parameters: narrow_width,
     bound: power,
     shares: Shares::Boolean,
+    aim: ends,
+    cuts: no_cuts,
     call: |input, tape| library::to_mod_q(&input.shares, tape, input.parameters.0, input.room),
 };
 
@@ -110,6 +127,8 @@ pub const SAMPLE: Gadget = Gadget {
     parameters: set,
     bound: |_| 0,
     shares: Shares::None,
+    aim: ends,
+    cuts: first_cuts,
     call: |input, tape| library::sample(tape, input.n, input.parameters.0, input.room),
 };
 
@@ -120,11 +139,37 @@ pub const SAMPLE_POLYNOMIAL: Gadget = Gadget {
     parameters: set,
     bound: |_| 0,
     shares: Shares::None,
+    aim: ends,
+    cuts: first_cuts,
     call: |input, tape| library::sample_polynomial(tape, input.n, input.parameters.0, input.room),
 };
 
-pub const GADGETS: [Gadget; 8] =
-    [REFRESH, REFRESH_BOOLEAN, SHIFT, TO_BOOLEAN, TO_ARITHMETIC, TO_MOD_Q, SAMPLE, SAMPLE_POLYNOMIAL];
+pub const WIDEN: Gadget = Gadget {
+    id: 9,
+    name: "widen",
+    size: SHORT,
+    parameters: set_and_kind,
+    bound: |_| Q as u32,
+    shares: Shares::Arithmetic,
+    aim: widening_edges,
+    cuts: last_cuts,
+    call: |input, tape| library::widen(&input.shares, tape, input.parameters.0, input.parameters.1, input.room),
+};
+
+pub const DECOMPOSE: Gadget = Gadget {
+    id: 10,
+    name: "decompose",
+    size: SHORT,
+    parameters: set_and_kind,
+    bound: |_| Q as u32,
+    shares: Shares::Arithmetic,
+    aim: decompose_edges,
+    cuts: last_cuts,
+    call: |input, tape| library::decompose(&input.shares, tape, input.parameters.0, input.room),
+};
+
+pub const GADGETS: [Gadget; 10] =
+    [REFRESH, REFRESH_BOOLEAN, SHIFT, TO_BOOLEAN, TO_ARITHMETIC, TO_MOD_Q, SAMPLE, SAMPLE_POLYNOMIAL, WIDEN, DECOMPOSE];
 
 /// Document 01's cases by hand.
 pub fn by_hand() -> Vec<(Gadget, Input)> {
@@ -141,6 +186,18 @@ pub fn by_hand() -> Vec<(Gadget, Input)> {
     ]
 }
 
+/// Document 01's cases of Decompose: the residue, and the parts that the page gives it. They are run in shares.
+pub const DECOMPOSE_BY_HAND: [(u32, (u32, i64)); 5] =
+    [(95232, (0, 95232)), (95233, (1, -95231)), (8380416, (0, -1)), (8285185, (0, -95232)), (8285184, (43, 95232))];
+
+/// Set 44, and n shares of the residue.
+pub fn shared(residue: u32, n: usize) -> Input {
+    let (tape, x) = DECOMPOSE.tape(n, residue);
+    let mut shares: Vec<u32> = words_after(x).take(n).map(|word| word % Q as u32).collect();
+    DECOMPOSE.complete(&mut shares, Q as u32, residue);
+    Input { n, shares, tape, parameters: (44, 0), room: n, array: n }
+}
+
 /// A sampler's calls with a stated share count far above the largest. Some counts are 0 or 2 in 8, 16 or 32 bits, or have the
 /// 256-fold of 0 or 2 in 64; and some slices have the lengths for 0 or 2 shares.
 pub fn far() -> Vec<Input> {
@@ -155,51 +212,13 @@ pub fn mix(sum: u32, v: u32) -> u32 {
 }
 
 /// xorshift: the words after `x`.
-fn words_after(x: u32) -> impl Iterator<Item = u32> {
+pub fn words_after(x: u32) -> impl Iterator<Item = u32> {
     std::iter::successors(Some(x), |&x| {
         let a = x ^ (x << 13);
         let b = a ^ (a >> 17);
         Some(b ^ (b << 5))
     })
     .skip(1)
-}
-
-fn modulus(round: u32, x: u32) -> Pair {
-    ([2, 3, 8380417, u32::MAX, (1 << 31) + 1, x, round / 8 % 2, x % 1000 + 2][round as usize % 8], 0)
-}
-
-fn width(round: u32, x: u32) -> Pair {
-    ([1, 31, 8, 23, (round / 8 + 1) % 31 + 1, x % 31 + 1, round / 8 % 2 * 32, x][round as usize % 8], 0)
-}
-
-/// The widths μ.
-fn narrow_width(round: u32, x: u32) -> Pair {
-    let any = x % 20 + 1;
-    ([1, 20, 18, round / 8 % 2 * 21, round / 8 % 20 + 1, any, any, x][round as usize % 8], 0)
-}
-
-fn power(k: u32) -> u32 {
-    1 << (k % 32)
-}
-
-fn modulus_and_t(round: u32, x: u32) -> Pair {
-    let times_power = |odd: u32, j: u32| (odd << j, j);
-    [
-        (u32::MAX - 1, 1),
-        (1 << 31, x % 31 + 1),
-        (3 << 30, x % 30 + 1),
-        times_power(8380417, x % 9 + 1),
-        times_power(x / 8 % 1000 * 2 + 3, x % 8 + 1),
-        (x, round / 8 % 34),
-        (1 << ((x % 31 + 2) % 32), x % 31 + 1),
-        (x % 6 * 2, x / 6 % 3),
-    ][round as usize % 8]
-}
-
-/// Parameter sets, and numbers that are none, some of them one in fewer bits.
-fn set(round: u32, x: u32) -> Pair {
-    let none = [0, 1, 43, 45, 64, 66, 86, 88, 44 + (1 << 8), 65 + (1 << 16), 87 + (1 << 31), u32::MAX];
-    ([44, 65, 87, 44, 65, 87, none[round as usize / 8 % 12], x][round as usize % 8], 0)
 }
 
 fn short_room(n: usize, round: u32) -> usize {
@@ -215,6 +234,20 @@ fn long_room(n: usize, round: u32) -> usize {
     [right, n, right.saturating_sub(1), (right + 1).min(2560), 0, 2560][round as usize / 8]
 }
 
+fn no_cuts(_: usize, _: usize) -> Vec<usize> {
+    Vec::new()
+}
+
+/// A sampler first draws a word for each share.
+fn first_cuts(n: usize, used: usize) -> Vec<usize> {
+    vec![n, n - 1, used / 256, 0]
+}
+
+/// Without the words of the closing refresh, and of the refresh before it, if none of them was skipped.
+fn last_cuts(n: usize, used: usize) -> Vec<usize> {
+    vec![used - (n - 1), used - 2 * (n - 1), 0]
+}
+
 /// What the other shares leave of the value to the last one.
 fn left_of_sum(value: u32, others: &[u32], bound: u32) -> u32 {
     let left = others.iter().fold(i128::from(value), |left, &share| left - i128::from(share));
@@ -226,10 +259,9 @@ fn left_of_xor(value: u32, others: &[u32]) -> u32 {
 }
 
 impl Gadget {
-    /// Replaces the last share, so that the shares recombine to 0, 1 or the largest value.
-    fn aim(&self, shares: &mut [u32], bound: u32, round: u32) {
+    /// Replaces the last share, so that the shares recombine to the value.
+    fn complete(&self, shares: &mut [u32], bound: u32, value: u32) {
         if let Some((last, others)) = shares.split_last_mut() {
-            let value = [0, 1, bound - 1][round as usize / 3 % 3];
             *last = match self.shares {
                 Shares::Arithmetic => left_of_sum(value, others, bound),
                 _ => left_of_xor(value, others),
@@ -237,13 +269,15 @@ impl Gadget {
         }
     }
 
-    fn shares(&self, n: usize, bound: u32, round: u32, x: u32) -> Vec<u32> {
+    fn shares(&self, n: usize, parameters: Pair, round: u32, x: u32) -> Vec<u32> {
         if matches!(self.shares, Shares::None) {
             return Vec::new();
         }
+        let bound = (self.bound)(parameters.0);
         let mut shares: Vec<u32> = words_after(x).take(n).map(|w| w.checked_rem(bound).unwrap_or(w)).collect();
         if bound >= 2 && round % 3 == 1 {
-            self.aim(&mut shares, bound, round);
+            let aim = Aim { parameters, bound, turn: round as usize / 3, x };
+            self.complete(&mut shares, bound, (self.aim)(&aim));
         }
         if round % 5 == 4 {
             shares.iter_mut().take(1).for_each(|share| *share = bound);
@@ -251,12 +285,18 @@ impl Gadget {
         shares
     }
 
-    pub fn input(&self, n: usize, round: u32) -> Input {
+    /// A tape, and the last of its words.
+    fn tape(&self, n: usize, round: u32) -> (Vec<u32>, u32) {
         let seed = mix(mix(self.id, n as u32), round);
         let tape: Vec<u32> = words_after(seed).take(self.size.tape).collect();
         let x = tape[self.size.tape - 1];
+        (tape, x)
+    }
+
+    pub fn input(&self, n: usize, round: u32) -> Input {
+        let (tape, x) = self.tape(n, round);
         let parameters = (self.parameters)(round, x);
-        let shares = self.shares(n, (self.bound)(parameters.0), round, x);
+        let shares = self.shares(n, parameters, round, x);
         Input { n, shares, tape, parameters, room: (self.size.room)(n, round), array: self.size.array }
     }
 
@@ -267,10 +307,6 @@ impl Gadget {
 
     /// How many words the further tapes have, if the first call used some.
     pub fn cuts(&self, n: usize, used: usize) -> Vec<usize> {
-        let mut cuts = vec![used, used - 1, used.saturating_sub(n), used / 2];
-        if matches!(self.shares, Shares::None) {
-            cuts.extend([n, n - 1, used / 256, 0]);
-        }
-        cuts
+        [vec![used, used - 1, used.saturating_sub(n), used / 2], (self.cuts)(n, used)].concat()
     }
 }

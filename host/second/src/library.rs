@@ -1,13 +1,17 @@
 //! The gadgets of document 01: the refusals in their order, the steps, and the closing refresh.
 
-use crate::conversions::{bits_of_sum, sum_mod_q, sum_of_boolean, Q};
+use crate::coefficients;
+use crate::conversions::{bits_of_sum, sum_mod_q, sum_of_boolean};
 use crate::sampling;
+use crate::sets::{self, Q};
 use crate::steps::{refresh_sum, refresh_xor, shift_by};
 use crate::tape::Tape;
 
-/// What a caller gets back; `out` is what the output slice then holds, `None` where it stays unchanged.
+/// What a caller gets back. `high` is `None` where the gadget has no such field. `out` is what the output slice then holds, `None`
+/// where it stays unchanged.
 pub struct Answer {
     pub number: u32,
+    pub high: Option<u32>,
     pub used: usize,
     pub out: Option<Vec<u32>>,
 }
@@ -20,7 +24,7 @@ fn refusal(shares: &[u32], room: usize, limit: Option<u64>) -> Option<u32> {
 }
 
 /// The same for a sampler, which has no shares to look at and writes `rows` times as many words as the stated count.
-fn sampler_refusal(count: usize, room: usize, rows: usize, set: Option<sampling::Set>) -> Option<u32> {
+fn sampler_refusal(count: usize, room: usize, rows: usize, set: Option<sets::Set>) -> Option<u32> {
     let wrong_room = room as u128 != rows as u128 * count as u128;
     first(&[(1, wrong_count(count)), (2, wrong_room), (3, set.is_none())])
 }
@@ -36,14 +40,17 @@ fn first(tests: &[(u32, bool)]) -> Option<u32> {
 
 /// The answer of a call: a refusal, number 5 if the steps met the tape's end, or their shares.
 fn answer(refused: Option<u32>, tape: &[u32], steps: impl FnOnce(&mut Tape) -> Option<Vec<u64>>) -> Answer {
-    let refuse = |number| Answer { number, used: 0, out: None };
+    let refuse = |number| Answer { number, high: None, used: 0, out: None };
     if let Some(number) = refused {
         return refuse(number);
     }
     let mut tape = Tape::new(tape);
     match steps(&mut tape) {
         None => refuse(5),
-        Some(words) => Answer { number: 0, used: tape.used(), out: Some(words.iter().map(|&x| x as u32).collect()) },
+        Some(words) => {
+            let out = Some(words.iter().map(|&x| x as u32).collect());
+            Answer { number: 0, high: None, used: tape.used(), out }
+        }
     }
 }
 
@@ -93,13 +100,13 @@ pub fn to_mod_q(shares: &[u32], tape: &[u32], width: u32, room: usize) -> Answer
 }
 
 pub fn sample(tape: &[u32], n: usize, set: u32, room: usize) -> Answer {
-    let set = sampling::set(set);
+    let set = sets::set(set);
     let steps = |tape: &mut Tape| sampling::coefficient(set?, n, tape);
     answer(sampler_refusal(n, room, 1, set), tape, steps)
 }
 
 pub fn sample_polynomial(tape: &[u32], n: usize, set: u32, room: usize) -> Answer {
-    let known = sampling::set(set);
+    let known = sets::set(set);
     let steps = |tape: &mut Tape| sampling::polynomial(known?, n, tape);
     let told = answer(sampler_refusal(n, room, sampling::COEFFICIENTS, known), tape, steps);
     if told.number == 5 {
@@ -122,4 +129,23 @@ fn one_by_one(tape: &[u32], n: usize, set: u32) -> Vec<u32> {
     }
     assert!(left.is_empty());
     words
+}
+
+pub fn widen(shares: &[u32], tape: &[u32], set: u32, kind: u32, room: usize) -> Answer {
+    let kind = sets::set(set).and_then(|set| set.kind(kind));
+    let steps = |tape: &mut Tape| coefficients::widen(kind?, &wide(shares), tape);
+    answer(refusal(shares, room, kind.map(|_| Q)), tape, steps)
+}
+
+/// The high part stays 0 unless all steps were made.
+pub fn decompose(shares: &[u32], tape: &[u32], set: u32, room: usize) -> Answer {
+    let set = sets::set(set);
+    let mut high = 0;
+    let steps = |tape: &mut Tape| {
+        let (opened, low) = coefficients::decompose(set?, &wide(shares), tape)?;
+        high = opened as u32;
+        Some(low)
+    };
+    let told = answer(refusal(shares, room, set.map(|_| Q)), tape, steps);
+    Answer { high: Some(high), ..told }
 }

@@ -1,10 +1,15 @@
-//! An independent second of the library, written from document 01: it makes the calls that docs/CASES.md lists and prints the
-//! lines that the program `cases` has to print.
+//! An independent second of the library, written from document 01. It is told the name of a program and prints the lines that this
+//! program has to print: of `cases`, from the calls that docs/CASES.md lists, made on the second itself; of `residues`, from FIPS
+//! 204's Decompose.
 
+mod coefficients;
 mod conversions;
 mod inputs;
 mod library;
+mod parameters;
+mod residues;
 mod sampling;
+mod sets;
 mod steps;
 mod tape;
 
@@ -21,8 +26,8 @@ struct Tally {
 impl Tally {
     fn note(&mut self, answer: &Answer, slice: &[u32]) {
         self.counts[answer.number as usize] += 1;
-        let told = [answer.number, answer.used as u32];
-        self.sum = told.iter().chain(slice).fold(self.sum, |sum, &v| inputs::mix(sum, v));
+        let told = [Some(answer.number), answer.high, Some(answer.used as u32)];
+        self.sum = told.iter().flatten().chain(slice).fold(self.sum, |sum, &v| inputs::mix(sum, v));
     }
 }
 
@@ -74,7 +79,7 @@ fn far_line(sampler: &Gadget) {
 
 fn draw_line(words: &[u32]) {
     let mut tape = Tape::new(words);
-    match tape.draw(conversions::Q) {
+    match tape.draw(sets::Q) {
         Some(number) => println!("draw {} {}", number, tape.used()),
         None => println!("draw ended"),
     }
@@ -85,7 +90,17 @@ fn hand_line(gadget: &Gadget, input: &Input) {
     println!("{} {} {} {}", gadget.name, answer.number, answer.used, joined(&array_after(&answer, input)));
 }
 
-fn main() {
+/// A case of Decompose in n shares. What is answered is what the page gives.
+fn parts_line(residue: u32, parts: (u32, i64), n: usize) {
+    let input = inputs::shared(residue, n);
+    let answer = inputs::DECOMPOSE.call(&input, input.tape.len());
+    let low: Vec<u64> = array_after(&answer, &input).iter().map(|&share| u64::from(share)).collect();
+    let high = answer.high.expect("Decompose answers a high part");
+    assert_eq!((high, steps::centred(&low, sets::Q)), parts);
+    println!("decompose {} {} {} {} {}", n, residue, answer.number, high, steps::value(&low, sets::Q));
+}
+
+fn cases() {
     draw_line(&[8380417, 8380416]);
     draw_line(&[8388608, 0]);
     for (gadget, input) in &inputs::by_hand() {
@@ -98,4 +113,17 @@ fn main() {
     }
     far_line(&inputs::SAMPLE);
     far_line(&inputs::SAMPLE_POLYNOMIAL);
+    for n in 2..=8 {
+        for (residue, parts) in inputs::DECOMPOSE_BY_HAND {
+            parts_line(residue, parts, n);
+        }
+    }
+}
+
+fn main() {
+    match std::env::args().nth(1).as_deref() {
+        Some("cases") => cases(),
+        Some("residues") => residues::print(),
+        _ => panic!("say which program's lines to print: cases or residues"),
+    }
 }

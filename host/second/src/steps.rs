@@ -7,6 +7,12 @@ pub fn value(shares: &[u64], modulus: u64) -> u64 {
     shares.iter().sum::<u64>() % modulus
 }
 
+/// The same as a signed number: a residue above half of the modulus is itself less the modulus.
+pub fn centred(shares: &[u64], modulus: u64) -> i64 {
+    let residue = value(shares, modulus);
+    residue as i64 - if residue > modulus / 2 { modulus as i64 } else { 0 }
+}
+
 /// All draws first; then each share but the last has its draw added, and the last has their sum taken away.
 pub fn refresh_sum(shares: &[u64], modulus: u64, tape: &mut Tape) -> Option<Vec<u64>> {
     let (last, others) = shares.split_last()?;

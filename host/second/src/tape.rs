@@ -16,10 +16,6 @@ impl<'a> Tape<'a> {
         self.read
     }
 
-    pub fn skipped(&self) -> usize {
-        self.skipped
-    }
-
     /// The low L bits of the first word that has them below the modulus.
     pub fn draw(&mut self, modulus: u64) -> Option<u64> {
         let mut bits = 0;
@@ -38,4 +34,20 @@ impl<'a> Tape<'a> {
     pub fn draws(&mut self, count: usize, modulus: u64) -> Option<Vec<u64>> {
         (0..count).map(|_| self.draw(modulus)).collect()
     }
+
+    /// A draw below each of the limits. It reads a word for each of them, beside the skipped ones.
+    pub fn drawn(&mut self, limits: &[u64]) -> Option<Vec<u32>> {
+        let (read, skipped) = (self.read, self.skipped);
+        let draws: Vec<u32> = limits.iter().map(|&limit| Some(self.draw(limit)? as u32)).collect::<Option<_>>()?;
+        assert_eq!(self.read - read, draws.len() + self.skipped - skipped);
+        Some(draws)
+    }
+}
+
+/// What the steps make of these draws, which they read as a tape. They skip none of them and leave none.
+pub fn on_draws<T>(draws: &[u32], steps: impl FnOnce(&mut Tape) -> Option<T>) -> T {
+    let mut tape = Tape::new(draws);
+    let made = steps(&mut tape).expect("there are enough draws");
+    assert_eq!((tape.read, tape.skipped), (draws.len(), 0));
+    made
 }

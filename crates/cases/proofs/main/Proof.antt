@@ -4,10 +4,10 @@ use Rattle.cases.proofs.main.Statement.{statement}
 use Rattle.cases.proofs.main.Tie as tie
 
 abbrev Inv-loop : tie.InvT-loop
-Inv-loop gadget₀ gadget = gadget ≤ 9
+Inv-loop gadget₀ gadget = gadget ≤ 11
 
 abbrev μ-loop : tie.MeasureT-loop
-μ-loop gadget₀ gadget = 9 - gadget
+μ-loop gadget₀ gadget = 11 - gadget
 
 by-hand-requires : tie.Need-by-hand-requires Inv-loop μ-loop
 by-hand-requires c κs = search needs
@@ -33,6 +33,9 @@ far-line-requires c κs = search needs
 far-line-requires-2 : tie.Need-far-line-requires-2 Inv-loop μ-loop
 far-line-requires-2 c κs = search needs
 
+parts-by-hand-requires : tie.Need-parts-by-hand-requires Inv-loop μ-loop
+parts-by-hand-requires c κs = search needs
+
 returns : tie.Need-returns Inv-loop μ-loop
 returns c = search needs
 
@@ -50,4 +53,5 @@ main-spec =
     loop-again
     far-line-requires
     far-line-requires-2
+    parts-by-hand-requires
     returns)

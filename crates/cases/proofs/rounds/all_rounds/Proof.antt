@@ -1,7 +1,7 @@
 use borrow.Author.Needs.{needs}
 use Prim.Native.Nat.{_≤_, _-_}
-use Rattle.cases.proofs.calls.all_rounds.Statement.{statement}
-use Rattle.cases.proofs.calls.all_rounds.Tie as tie
+use Rattle.cases.proofs.rounds.all_rounds.Statement.{statement}
+use Rattle.cases.proofs.rounds.all_rounds.Tie as tie
 
 abbrev Inv-loop : tie.InvT-loop
 Inv-loop gadget n t₀ r₀ r-end t r = r ≤ r-end

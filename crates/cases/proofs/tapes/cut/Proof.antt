@@ -2,8 +2,8 @@ use borrow.Author.Needs.{needs}
 use mathlib.Core.Path.{sym}
 use native.Mathlib.Omega.{arith}
 use lib.Seq.{length-take-le}
-use Rattle.cases.proofs.calls.cut.Statement.{statement}
-use Rattle.cases.proofs.calls.cut.Tie as tie
+use Rattle.cases.proofs.tapes.cut.Statement.{statement}
+use Rattle.cases.proofs.tapes.cut.Tie as tie
 
 returns : tie.Need-returns
 returns c = search needs

@@ -1,0 +1,41 @@
+// Holds Decompose in shares to a plain one: in two shares at every residue, for both values of γ2; in more shares, and for set 87,
+// at those where the parts change, and at many others. docs/CASES.md says at which.
+mod lines;
+mod plain;
+mod random;
+mod tried;
+
+ghost use Prim.Native.Nat.{_≤_};
+
+fn number(x: u32) {
+    io::print_decimal(1, x as u64);
+}
+
+// The set, the share count, how many residues were tried, at how many the parts were wrong, and the checksum.
+fn line(set: u32, n: usize)
+    requires { ⌜ n ≤ 8 ⌝ }
+{
+    let t = lines::tally(set, n);
+    number(set);
+    io::write_all(1, b" ");
+    number(n as u32);
+    io::write_all(1, b" ");
+    number(t.residues);
+    io::write_all(1, b" ");
+    number(t.wrong);
+    io::write_all(1, b" ");
+    number(t.sum);
+    io::write_all(1, b"\n");
+}
+
+fn lines_of(set: u32) {
+    for n in 2..9 {
+        line(set, n);
+    }
+}
+
+fn main() {
+    lines_of(44);
+    lines_of(65);
+    lines_of(87);
+}
