@@ -1,18 +1,9 @@
 // The values that some rounds aim at, since a step is likely to go wrong there.
 use super::parameters::Pair;
+use trials::gamma2;
 ghost use Prim.Native.Nat.{_<_};
 
-// A number that is no set counts as 87, and one that is no kind as 2: such a call is refused whatever its shares are worth.
-fn gamma2(set: u32) -> u32
-    ensures { λ r. ⌜ r < 600000 ⌝ }
-{
-    match set {
-        44 => 95232,
-        _ => 261888,
-    }
-}
-
-// Up to the reach widening keeps the value.
+// Up to the reach widening keeps the value. A number that is no set counts as 87, and one that is no kind as 2.
 fn reach(set: u32, kind: u32) -> u32
     ensures { λ r. ⌜ r < 600000 ⌝ }
 {

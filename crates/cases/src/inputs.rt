@@ -2,7 +2,7 @@
 use super::aims::value;
 use super::parameters::Pair;
 use super::parameters::bound;
-use super::tally::step;
+use trials::fill;
 
 // The difference, or 0 if there is none.
 pub fn less(x: usize, y: usize) -> usize {
@@ -46,22 +46,14 @@ fn polynomial_room(n: usize, r: u32) -> usize {
     }
 }
 
-// x below m, if m is not 0.
-fn below(x: u32, m: u32) -> u32 {
+// Each word modulo m, if m is not 0.
+pub fn reduce(words: &mut [u32], m: u32) {
     if m == 0 {
-        return x;
+        return;
     }
-    x % m
-}
-
-// Fills the words with pseudo-random ones below m, and answers the generator's new state.
-pub fn fill(words: &mut [u32], m: u32, start: u32) -> u32 {
-    let mut x = start;
     for i in 0..words.len() {
-        x = step(x);
-        words[i] = below(x, m);
+        words[i] = words[i] % m;
     }
-    x
 }
 
 // The difference modulo m of numbers below m.
@@ -123,7 +115,8 @@ fn spoil(shares: &mut [u32], m: u32, r: u32) {
 // Fills the shares for a round.
 pub fn fill_shares(gadget: u32, p: Pair, shares: &mut [u32], r: u32, x: u32) {
     let m = bound(gadget, p.first);
-    fill(shares, m, x);
+    fill(shares, x);
+    reduce(shares, m);
     aim(gadget, p, shares, m, r, x);
     spoil(shares, m, r);
 }

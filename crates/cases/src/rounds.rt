@@ -1,12 +1,12 @@
 // The rounds of a line.
-use super::inputs::fill;
 use super::inputs::fill_shares;
 use super::inputs::room_for;
 use super::parameters::parameters;
 use super::tally::Tally;
 use super::tally::low;
-use super::tally::mix;
 use super::tapes::on_tapes;
+use trials::fill;
+use trials::mix;
 
 // A call for a polynomial makes 256 coefficients, so it has few rounds.
 fn rounds(gadget: u32) -> u32 {
@@ -18,7 +18,7 @@ fn rounds(gadget: u32) -> u32 {
 
 // One round on a tape and shares of the right lengths, which it fills.
 fn filled(t: Tally, gadget: u32, r: u32, tape: &mut [u32], shares: &mut [u32]) -> Tally {
-    let x = fill(tape, 0, mix(mix(gadget, low(shares.len())), r));
+    let x = fill(tape, mix(mix(gadget, low(shares.len())), r));
     let p = parameters(gadget, r, x);
     fill_shares(gadget, p, shares, r, x);
     let room = room_for(gadget, shares.len(), r);

@@ -1,6 +1,7 @@
 // What is kept of the answers: how often each number came, and a checksum.
 use gadgets::Answer;
 use gadgets::Decomposed;
+use trials::mix;
 
 pub struct Tally {
     pub counts: [u32; 6],
@@ -22,18 +23,6 @@ impl Tally {
 // The low 32 bits of a count.
 pub fn low(n: usize) -> u32 {
     (n % 4294967296) as u32
-}
-
-// The next pseudo-random word: xorshift with 13, 17 and 5.
-pub fn step(x: u32) -> u32 {
-    let a = x ^ (x << 13);
-    let b = a ^ (a >> 17);
-    b ^ (b << 5)
-}
-
-// A word into the checksum.
-pub fn mix(sum: u32, v: u32) -> u32 {
-    ((sum as u64 * 16777619 + v as u64) % 4294967296) as u32
 }
 
 pub fn mix_all(sum: u32, words: &[u32]) -> u32 {

@@ -1,2 +1,1 @@
-pub mod AdmitLaws
 pub mod TellLaws

@@ -15,16 +15,17 @@ use Rattle.numbers.proofs.Cong.{cong-eq}
 use Rattle.numbers.proofs.GroupLaws.{sub-only}
 use Rattle.numbers.proofs.CentredLaws.{less-over, less-under, less-one, centred-sub, centred-top}
 use Rattle.decompose.specs.Plain.{remainder, multiple, last, highOf, lowOf}
+use Rattle.decompose.specs.Remainder.{Remainder}
 
 -- r is 2γ2·k and a number from −γ2 + 1 to γ2, which is the remainder; and r less that is the multiple
-pub record Near (g r k : ℕ) : Type 0 where
-  pub over : 2 * g * k < r + g
-  pub under : r ≤ 2 * g * k + g
-  pub rest : remainder g r ≡ pos r -ℤ pos (2 * g * k)
-  pub least : negℤ (pos g) <ℤ remainder g r
-  pub most : remainder g r ≤ℤ pos g
-  pub exact : pos r -ℤ remainder g r ≡ pos (multiple g r)
-  pub whole : multiple g r ≡ 2 * g * k
+record Near (g r k : ℕ) : Type 0 where
+  over : 2 * g * k < r + g
+  under : r ≤ 2 * g * k + g
+  rest : remainder g r ≡ pos r -ℤ pos (2 * g * k)
+  least : negℤ (pos g) <ℤ remainder g r
+  most : remainder g r ≤ℤ pos g
+  exact : pos r -ℤ remainder g r ≡ pos (multiple g r)
+  whole : multiple g r ≡ 2 * g * k
 
 -- −γ2 is below all but −γ2 and what is below that
 below-minus : (g m : ℕ) → m + 1 < g → negℤ (pos g) <ℤ negsuc m
@@ -75,11 +76,11 @@ module _ (g r j : ℕ) (small : r % (2 * g) < 2 * g) (split : r ≡ 2 * g * j + 
       }
 
 -- every r is near such a multiple
-pub record Rounded (g r : ℕ) : Type 0 where
-  pub k : ℕ
-  pub near : Near g r k
+record Rounded (g r : ℕ) : Type 0 where
+  k : ℕ
+  near : Near g r k
 
-pub rounded : (g r : ℕ) → 0 < g → Rounded g r
+rounded : (g r : ℕ) → 0 < g → Rounded g r
 rounded g r least = go (decLe (r % (2 * g)) g)
   where
     small : r % (2 * g) < 2 * g
@@ -91,6 +92,12 @@ rounded g r least = go (decLe (r % (2 * g)) g)
     go : Dec (r % (2 * g) ≤ g) → Rounded g r
     go (yes h) = record { k = r / (2 * g); near = near-below g r (r / (2 * g)) small split h }
     go (no n) = record { k = r / (2 * g) + 1; near = near-above g r (r / (2 * g)) small split (omega arith) }
+
+-- so the remainder is FIPS 204's
+pub remainder-is : (g r : ℕ) → 0 < g → Remainder g r
+remainder-is g r least =
+    let f = rounded g r least in
+    record { least = f .near .least; most = f .near .most; exact = f .near .exact; times = f .k; whole = f .near .whole }
 
 module _ (g δ r : ℕ) (least : 0 < g) (some : 0 < δ) (parts : 2 * g * δ ≡ q - 1) (below : r < q) where
   -- what the gadget opens, and what it leaves, are FIPS 204's

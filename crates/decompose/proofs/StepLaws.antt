@@ -16,13 +16,13 @@ use Rattle.params.specs.Laws.{Laws}
 use Rattle.params.proofs.RoomLaws.{half-below, multiple-below}
 use Rattle.tape.specs.declared.Cursor.{Cursor}
 use Rattle.tape.specs.Tape.{ended, ran}
-use Rattle.draws.specs.Draws.{run}
-use Rattle.draws.proofs.RunLaws.{run-done, part-ran, part-ended, bind-ran, bind-ended, bind-parts}
+use Rattle.draws.specs.Draws.{next, run}
+use Rattle.draws.proofs.RunLaws.{run-bind, run-done, part-ran, part-ended, bind-parts}
 use Rattle.shares.specs.Sharing.{arithmetic, value, addToFirst}
 use Rattle.shares.specs.Refresh.{refresh}
 use Rattle.shares.proofs.FirstLaws.{added-take, added-words, taken-take, taken-words}
 use Rattle.switching.specs.Switching.{carries}
-use Rattle.decompose.specs.Decompose.{highShares, highPart, lowShares}
+use Rattle.decompose.specs.Decompose.{highShift, highShares, highPart, lowShares}
 
 -- the words that are handed on, all eight
 pub offset-words : {p : Params} → Laws p → {ws : List ℕ} → Words 8 q ws → Words 8 q (addToFirst (arithmetic q) (p .gamma2) ws)
@@ -38,12 +38,13 @@ count-room {p} l n =
     omega (arith, alpha-smallest n .holds, mul-le-mul-left (2 ^ (23 + alpha n)) (l .parts-least))
 
 -- shares of the high part, on the first n words of an array
-pub high-shares-is : {n t : ℕ} (p : Params) (ws : List ℕ) → 0 < n → n ≤ length ws → t ≡ 23 + alpha n →
-    carries (p .delta) t (p .delta * 2 ^ t) q (take n (addToFirst (arithmetic q) (p .gamma2) ws)) ≡ highShares p (take n ws)
+pub high-shares-is : {n t : ℕ} (p : Params) (ws tape : List ℕ) (c : Cursor) → 0 < n → n ≤ length ws → t ≡ highShift n →
+    next (run (carries (p .delta) t (p .delta * 2 ^ t) q (take n (addToFirst (arithmetic q) (p .gamma2) ws))) tape c) (λ xs d. run (refresh (arithmetic (p .delta)) xs) tape d)
+    ≡ run (highShares p (take n ws)) tape c
 unfolding highShares
-high-shares-is {n} {t} p ws pos most is =
-    let same : 23 + alpha (length (take n ws)) ≡ t = ap (λ (j : ℕ). 23 + alpha j) (length-take-le n ws most) ∙ sym is in
-    rw (same, added-take (arithmetic q) (p .gamma2) n ws pos)
+high-shares-is {n} {t} p ws tape c pos most is =
+    let same : highShift (length (take n ws)) ≡ t = ap highShift (length-take-le n ws most) ∙ sym is in
+    rw (same, added-take (arithmetic q) (p .gamma2) n ws pos) (sym (run-bind _ (refresh (arithmetic (p .delta))) tape c))
 
 -- the high part
 module _ (p : Params) (xs tape : List ℕ) (c : Cursor) where
@@ -51,24 +52,17 @@ module _ (p : Params) (xs tape : List ℕ) (c : Cursor) where
   unfolding highPart
   shares-ended = part-ended _ _ tape c refl
 
-  module _ {hs : List ℕ} {d : Cursor} (e : run (highShares p xs) tape c ≡ ran hs d) where
-    pub refresh-ended : run (refresh (arithmetic (p .delta)) hs) tape d ≡ ended → ended ≡ run (highPart p xs) tape c
-    unfolding highPart
-    refresh-ended f = sym (part-ran _ _ tape c refl e ∙ bind-ended (refresh (arithmetic (p .delta)) hs) _ tape d f)
-
-    pub opens : {rs : List ℕ} {f : Cursor} → run (refresh (arithmetic (p .delta)) hs) tape d ≡ ran rs f →
-        ran (value (arithmetic (p .delta)) rs) f ≡ run (highPart p xs) tape c
-    unfolding highPart
-    opens {rs} {f} g = sym (part-ran _ _ tape c refl e ∙ bind-ran (refresh (arithmetic (p .delta)) hs) _ tape d rs f g ∙ run-done (value (arithmetic (p .delta)) rs) tape f)
+  pub opens : {hs : List ℕ} {d : Cursor} → run (highShares p xs) tape c ≡ ran hs d → ran (value (arithmetic (p .delta)) hs) d ≡ run (highPart p xs) tape c
+  unfolding highPart
+  opens {hs} {d} e = sym (part-ran _ _ tape c refl e ∙ run-done (value (arithmetic (p .delta)) hs) tape d)
 
   -- what is opened is below δ
   pub high-below : 0 < p .delta → {high : ℕ} {d : Cursor} → run (highPart p xs) tape c ≡ ran high d → high < p .delta
   unfolding highPart run
   high-below pos {high} e =
       let (hs, d, f, g) = bind-parts (highShares p xs) _ tape c e in
-      let (rs, b, h, i) = bind-parts (refresh (arithmetic (p .delta)) hs) _ tape d g in
-      let is : high ≡ value (arithmetic (p .delta)) rs = cc in
-      rw is (mod-lt (sum rs) pos)
+      let is : high ≡ value (arithmetic (p .delta)) hs = cc in
+      rw is (mod-lt (sum hs) pos)
 
 -- the low shares, on the first n words of an array, and the words that are handed on
 pub low-take : (p : Params) (high n : ℕ) (ws : List ℕ) → 0 < n → take n (lowShares p high ws) ≡ lowShares p high (take n ws)

@@ -1,7 +1,7 @@
 -- What Decompose opens is FIPS 204's high part, and the low shares recombine to its low part: of every residue, over any n whose shares leave room and
 -- any set that has its laws, whatever the draws.
 use mathlib.Core.Path.{_≡_, sym, ap, subst, _∙_}
-use mathlib.Core.List.{List}
+use mathlib.Core.List.{List, [], _∷_}
 use Prim.Native.Nat.{ℕ, suc, _+_, _-_, _*_, _/_, _%_, _^_, _≤_, _<_}
 use native.Mathlib.Nat.{mod-lt, mod-eq-of-lt, add-mul-mod-self-left, mul-le-mul-right, mul-lt-mul-of-pos-right, div-lt-iff-lt-mul, le-div-iff-mul-le, lt-div-mul-add, div-mul-le-self, div-eq-of-lt-le, lt-of-mul-lt-mul-right}
 use native.Mathlib.Omega.{arith}
@@ -15,15 +15,15 @@ use Rattle.params.specs.declared.Params.{Params}
 use Rattle.params.specs.Laws.{Laws}
 use Rattle.params.proofs.RoomLaws.{half-least, half-below, multiple-below}
 use Rattle.draws.proofs.Outcomes.{Gives}
-use Rattle.draws.proofs.PlanLaws.{gives-bind, gives-map, gives-as}
+use Rattle.draws.proofs.PlanLaws.{gives-bind, gives-map}
 use Rattle.shares.specs.Sharing.{arithmetic, value, addToFirst}
-use Rattle.shares.specs.Refresh.{refreshPlan}
+use Rattle.shares.specs.Refresh.{refresh, refreshPlan}
 use Rattle.shares.proofs.SharingLaws.{Shares}
 use Rattle.shares.proofs.FirstLaws.{added-first, taken-first}
 use Rattle.shares.proofs.RefreshLaws.{refresh-keeps}
-use Rattle.shift.specs.Shift.{shiftPlan}
 use Rattle.switching.proofs.CarryLaws.{Carried, carries-give}
-use Rattle.decompose.specs.Decompose.{highShares, highPart, highPlan, lowShares}
+use Rattle.gate.specs.Told.{Outcome}
+use Rattle.decompose.specs.Decompose.{highShift, highShares, highPart, highPlan, lowShares, decompose}
 use Rattle.decompose.specs.Plain.{highOf, lowOf}
 use Rattle.decompose.proofs.PlainLaws.{high-plain, low-plain}
 
@@ -43,6 +43,11 @@ value-below {xs = xs} a = subst (λ (y : ℕ). y < q) (a .is) (mod-lt (sum xs) (
 pub record Low (γ2 n x : ℕ) (ys : List ℕ) : Type 0 where
   pub words : Words n q ys
   pub is : centred q (value (arithmetic q) ys) ≡ lowOf γ2 x
+
+-- the high part of x, opened, and low shares
+pub record Parts (γ2 n x : ℕ) (o : Outcome) : Type 0 where
+  pub opened : o .opened ≡ highOf γ2 x ∷ []
+  pub low : Low γ2 n x (o .shares)
 
 module _ {p : Params} (l : Laws p) where
   abbrev δ : ℕ
@@ -69,7 +74,7 @@ module _ {p : Params} (l : Laws p) where
 
   module _ (d x : ℕ) {xs : List ℕ} (a : Shares (arithmetic q) (suc d) x xs) where
     t : ℕ
-    t = 23 + alpha (suc d)
+    t = highShift (suc d)
 
     ys : List ℕ
     ys = addToFirst (arithmetic q) (p .gamma2) xs
@@ -100,30 +105,33 @@ module _ {p : Params} (l : Laws p) where
         ∙ ap (λ (y : ℕ). y * δ / q) (offset .is)
         ∙ plain-high x below
 
-    shares-give : Gives (Shares (arithmetic δ) (suc d) (highOf (p .gamma2) x)) (highShares p xs) (shiftPlan δ t (suc d))
-    unfolding highShares t ys
+    shares-give : Gives (Shares (arithmetic δ) (suc d) (highOf (p .gamma2) x)) (highShares p xs) (highPlan p (suc d))
+    unfolding highShares highPlan t ys
     shares-give =
         let c : Carried d δ t (δ * 2 ^ t) q q δ ys = carries-give d δ t (δ * 2 ^ t) q q δ ys (omega (arith, l .parts-least)) (omega arith) (omega arith) (offset .words) in
-        rw (a .words .size) (gives-as (λ hs s. record { words = s .words; is = s .is ∙ high-is (c .off) (c .most) }) (c .shares))
+        rw (a .words .size)
+        (gives-bind (refresh (arithmetic δ)) (refreshPlan (arithmetic δ) (suc d)) (c .shares)
+        (λ hs s. refresh-keeps (arithmetic δ) (omega (arith, l .parts-least)) (highOf (p .gamma2) x) hs (omega arith)
+        (record { words = s .words; is = s .is ∙ high-is (c .off) (c .most) })))
 
     part-gives : Gives (λ high. high ≡ highOf (p .gamma2) x) (highPart p xs) (highPlan p (suc d))
-    unfolding highPart highPlan t
-    part-gives =
-        gives-bind _ (refreshPlan (arithmetic δ) (suc d)) shares-give
-        (λ hs s. gives-map (λ high. high ≡ highOf (p .gamma2) x) (value (arithmetic δ))
-        (refresh-keeps (arithmetic δ) (omega (arith, l .parts-least)) (highOf (p .gamma2) x) hs (omega arith) s) (λ rs r. r .is))
+    unfolding highPart
+    part-gives = gives-map (λ high. high ≡ highOf (p .gamma2) x) (value (arithmetic δ)) shares-give (λ hs s. s .is)
 
-  -- Decompose makes the planned draws, and whatever they give, the high part is r1
-  pub high-gives : (n x : ℕ) (xs : List ℕ) → 0 < n → Shares (arithmetic q) n x xs → Gives (λ high. high ≡ highOf (p .gamma2) x) (highPart p xs) (highPlan p n)
-  high-gives n x xs some a =
-      let one : suc (n - 1) ≡ n = omega arith in
-      subst (λ (m : ℕ). Gives (λ high. high ≡ highOf (p .gamma2) x) (highPart p xs) (highPlan p m)) one (part-gives (n - 1) x (subst (λ (m : ℕ). Shares (arithmetic q) m x xs) (sym one) a))
-
-  -- and the low shares recombine to r0
-  pub low-gives : (n x high : ℕ) (xs : List ℕ) → 0 < n → Shares (arithmetic q) n x xs → high ≡ highOf (p .gamma2) x → Low (p .gamma2) n x (lowShares p high xs)
+  -- the low shares recombine to r0
+  low-gives : (n x high : ℕ) (xs : List ℕ) → 0 < n → Shares (arithmetic q) n x xs → high ≡ highOf (p .gamma2) x → Low (p .gamma2) n x (lowShares p high xs)
   unfolding lowShares
   low-gives n x high xs some a e =
       let below : x < q = value-below a in
       let r : ℕ = 2 * p .gamma2 * highOf (p .gamma2) x in
       let w = taken-first (arithmetic q) r (omega arith) (multiple-below l (plain-small x below)) some a in
       rw e (record { words = w .words; is = ap (centred q) (w .is) ∙ plain-low x below })
+
+  -- Decompose makes the planned draws, and whatever they give, it opens r1 and gives shares of r0
+  pub decompose-gives : (n x : ℕ) (xs : List ℕ) → 0 < n → Shares (arithmetic q) n x xs → Gives (Parts (p .gamma2) n x) (decompose p xs) (highPlan p n)
+  unfolding decompose
+  decompose-gives n x xs some a =
+      let one : suc (n - 1) ≡ n = omega arith in
+      let high = subst (λ (m : ℕ). Gives (λ h. h ≡ highOf (p .gamma2) x) (highPart p xs) (highPlan p m)) one (part-gives (n - 1) x (subst (λ (m : ℕ). Shares (arithmetic q) m x xs) (sym one) a)) in
+      gives-map (Parts (p .gamma2) n x) (λ h. record { opened = h ∷ []; shares = lowShares p h xs }) high
+      (λ h e. record { opened = ap (λ (k : ℕ). k ∷ []) e; low = low-gives n x h xs some a e })

@@ -1,3 +1,4 @@
 pub mod Decompose
 pub mod Answers
 pub mod Plain
+pub mod Remainder

@@ -12,7 +12,7 @@ use Rattle.numbers.specs.Centred.{centred}
 unfoldable pub remainder : (γ2 r : ℕ) → ℤ
 remainder γ2 r = centred (2 * γ2) (r % (2 * γ2))
 
--- r − r0, which is never negative
+-- r − r0, which is not negative (Remainder.antt)
 unfoldable pub multiple : (γ2 r : ℕ) → ℕ
 multiple γ2 r = natAbs (pos r -ℤ remainder γ2 r)
 

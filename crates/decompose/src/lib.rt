@@ -2,8 +2,8 @@
 use params::Params;
 use shares::Shared;
 use shares::add_to_first;
+use shares::close;
 use shares::opened;
-use shares::refresh;
 use shares::take_from_first;
 use switching::carries_by_q;
 use tape::Cursor;
@@ -26,7 +26,7 @@ pub enum High {
     Ended,
 }
 
-// Shares of the high part modulo delta. Gamma2 goes onto a copy: the low part is taken from the input.
+// Shares of the high part modulo delta, fresh enough to be opened. Gamma2 goes onto a copy: the low part is taken from the input.
 fn high_shares(
     shares: [u32; Params::MOST],
     n: usize,
@@ -39,7 +39,8 @@ fn high_shares(
 {
     let x = add_to_first(shares, p.gamma2, Params::Q);
     let t = 23 + alpha(n);
-    carries_by_q(x, n, p.delta * power(t), p.delta, t, cursor, tape)
+    let s = carries_by_q(x, n, p.delta, t, p.delta * power(t), cursor, tape);
+    close(s, n, p.delta, tape)
 }
 
 pub fn high_part(
@@ -57,14 +58,8 @@ pub fn high_part(
         return High::Ended;
     }
     let x = shared.words;
-    let c = shared.cursor;
-    let refreshed = refresh(x, n, p.delta, c, tape);
-    if !refreshed.ok {
-        return High::Ended;
-    }
-    let y = refreshed.words;
-    let after = refreshed.cursor;
-    High::Opened(opened(y, n, p.delta), after)
+    let after = shared.cursor;
+    High::Opened(opened(x, n, p.delta), after)
 }
 
 pub fn low_shares(shares: [u32; Params::MOST], p: Params, high: u32) -> [u32; Params::MOST]

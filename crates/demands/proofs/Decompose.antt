@@ -7,17 +7,20 @@ use lib.ListN.{length, getD, length-append, length-replicate}
 use Rattle.numbers.specs.Modulo.{q}
 use Rattle.numbers.specs.Bits.{alpha}
 use Rattle.numbers.specs.Lists.{sum}
-use Rattle.params.specs.Sets.{paramsOf}
+use Rattle.params.specs.Sets.{Known, paramsOf}
 use Rattle.params.proofs.SetLaws.{set-laws, known-yes, known-so}
-use Rattle.draws.proofs.PlanLaws.{gives-map}
+use Rattle.params.proofs.RoomLaws.{half-least}
+use Rattle.decompose.specs.Remainder.{Remainder}
+use Rattle.decompose.proofs.PlainLaws.{remainder-is}
+use Rattle.draws.proofs.PlanLaws.{gives-as}
 use Rattle.shares.specs.Sharing.{arithmetic}
 use Rattle.shares.specs.Refresh.{refreshPlan}
 use Rattle.shift.specs.Shift.{shiftPlan}
 use Rattle.shift.proofs.FloorLaws.{shift-draws}
 use Rattle.gate.specs.Gadget.{tells}
-use Rattle.decompose.specs.Decompose.{highPlan, lowShares}
-use Rattle.decompose.proofs.ValueLaws.{high-gives, low-gives}
-use Rattle.coefficients.specs.Coefficients.{parted, decomposeGadget}
+use Rattle.decompose.specs.Decompose.{highPlan, lowShares, decompose}
+use Rattle.decompose.proofs.ValueLaws.{decompose-gives}
+use Rattle.coefficients.specs.Coefficients.{decomposeGadget}
 use Rattle.coefficients.specs.Answers.{partsStandFor}
 use Rattle.demands.specs.Claim.{plan}
 use Rattle.demands.specs.Demands.{Demands}
@@ -28,7 +31,7 @@ use Rattle.demands.proofs.Demands.{demands}
 use Rattle.demands.proofs.Unique.{unique-by}
 
 decompose-steps : (set : ℕ) → Steps (decomposeClaim set)
-unfolding decomposeGadget parted
+unfolding decomposeGadget
 decompose-steps set =
     record {
       range =
@@ -40,12 +43,13 @@ decompose-steps set =
       has-fields = refl;
       opens-fields = λ x. refl;
       give = λ r n least most xs w.
-          gives-map _ (λ high. record { opened = high ∷ []; shares = lowShares (paramsOf set) high xs })
-          (high-gives (set-laws r) n (sum xs % q) xs (omega arith) (record { words = w; is = refl }))
-          (λ high e.
-          let a = low-gives (set-laws r) n (sum xs % q) high xs (omega arith) (record { words = w; is = refl }) e in
-          record { opened = ap (λ (h : ℕ). h ∷ []) e; words = a .words; recombined = a .is });
+          gives-as (λ o a. record { opened = a .opened; words = a .low .words; recombined = a .low .is })
+          (decompose-gives (set-laws r) n (sum xs % q) xs (omega arith) (record { words = w; is = refl }));
     }
+
+-- the plain function is FIPS 204's: its r0 is the remainder in −γ2 < r0 ≤ γ2
+pub decompose-remainder : {set : ℕ} → Known set → (r : ℕ) → Remainder (paramsOf set .gamma2) r
+decompose-remainder k r = remainder-is _ r (half-least (set-laws k))
 
 pub decompose-demands : (set : ℕ) → Demands (decomposeClaim set)
 decompose-demands set = demands (decompose-steps set)

@@ -64,7 +64,7 @@ on-shares {c} s shares out =
       passes = λ v. sym (below-passes M shares (words-below (v .below)) ∙ first-later (s .range .tested) n (length out) n more (v .count) (v .room) (v .range));
       valid = λ e.
           let p = all-passed shares (length out) (c .gadget .inRange) M e in
-          record { count = (p .first .least, p .first .most); room = p .first .fits; range = s .range .tested .in-range (p .first .range); below = p .below };
+          record { count = (p .ready .least, p .ready .most); room = p .ready .fits; range = s .range .tested .in-range (p .range); below = p .ready .below };
       planned = λ v. gives v .plan;
       right = λ v tape e. always-run (gives v .always) tape start e;
       fields = λ tape p o r. ap length (r .opened) ∙ s .opens-fields (value (c .gadget .input) shares);

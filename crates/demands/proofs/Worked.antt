@@ -23,13 +23,13 @@ use Rattle.gate.specs.Sampler.{samples}
 use Rattle.sample.specs.Sampling.{lowered, coefficient, filled, row, polynomial}
 use Rattle.samplers.specs.Samplers.{sampler, polynomialSampler}
 use Rattle.widening.specs.Widening.{widen}
-use Rattle.decompose.specs.Decompose.{highShares, highPart, lowShares}
-use Rattle.coefficients.specs.Coefficients.{parted, widenGadget, decomposeGadget}
+use Rattle.decompose.specs.Decompose.{highShares, highPart, lowShares, decompose}
+use Rattle.coefficients.specs.Coefficients.{kindRange, widenGadget, decomposeGadget}
 use Rattle.gadgets.specs.Shift.{shiftRange, shiftGadget, toBooleanGadget}
 use Rattle.gadgets.specs.Convert.{toArithmeticGadget, toModQGadget}
 use Rattle.gadgets.specs.Refresh.{refreshGadget, booleanGadget}
 use Rattle.demands.specs.Worked.{Worked}
 
 pub worked : Worked
-unfolding leadingZeros addMod subMod negMod xor bitsOf change along over lowBits drawFrom drawAt after next run bind turns each move turn refresh negated join joinTurn sharedParity less moveParity evened halves halving shift withBit bitsFrom toBoolean psi psis zOf added rule toArithmetic floors raised raisedShift carries without toModulus powerFrom alpha inside allBelow firstFailing checksOf checks refusal ranTold silentSteps closed checkNumber told tells shiftRange shiftGadget toBooleanGadget toArithmeticGadget toModQGadget refreshGadget booleanGadget samples setOf known paramsOf drawAll lowered coefficient filled row polynomial sampler polynomialSampler addToFirst takeFromFirst ofKind widen highShares highPart lowShares parted widenGadget decomposeGadget sum fold
+unfolding leadingZeros addMod subMod negMod xor bitsOf change along over lowBits drawFrom drawAt after next run bind turns each move turn refresh negated join joinTurn sharedParity less moveParity evened halves halving shift withBit bitsFrom toBoolean psi psis zOf added rule toArithmetic floors raised raisedShift carries without toModulus powerFrom alpha inside allBelow firstFailing checksOf checks refusal ranTold silentSteps closed checkNumber told tells shiftRange shiftGadget toBooleanGadget toArithmeticGadget toModQGadget refreshGadget booleanGadget samples setOf known paramsOf drawAll lowered coefficient filled row polynomial sampler polynomialSampler addToFirst takeFromFirst ofKind widen highShares highPart lowShares decompose kindRange widenGadget decomposeGadget sum fold
 worked = record { refreshed = refl; refreshed-boolean = refl; shifted = refl; made-boolean = refl; made-arithmetic = refl; made-mod-q = refl; short = refl; sampled = refl; unknown = refl; filled = refl; wiped = refl; kept = refl; widened = refl; no-kind = refl; decomposed = refl; hidden = refl }

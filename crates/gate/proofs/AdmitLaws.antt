@@ -15,6 +15,12 @@ use Rattle.gate.specs.declared.Admitted.{Admitted}
 use Rattle.gate.specs.declared.Admitted.the-variants.{Set, Refused}
 use Rattle.gate.specs.Admission.{admittedStandsFor, admission}
 
+-- no check failed, and p is the set
+pub record Good (number set : ℕ) (p : Params) : Type 0 where
+  pub passes : 0 ≡ number
+  pub constants : p ≡ paramsOf set
+  pub laws : Laws p
+
 module _ (number set : ℕ) where
   -- some check fails, or none
   pub refused-admits : {k : ℕ} → k ≡ number → ¬ (k ≡ 0) → (k, none) ≡ admission number set
@@ -44,12 +50,7 @@ module _ (number set : ℕ) where
               omega arith,
         )
 
-    pub record Good (p : Params) : Type 0 where
-      pub passes : 0 ≡ number
-      pub constants : p ≡ paramsOf set
-      pub laws : Laws p
-
-    pub good : {p : Params} → r ≡ Set p → Good p
+    pub good : {p : Params} → r ≡ Set p → Good number set p
     unfolding admittedStandsFor admission paramsOf
     good {p} e =
         let s : (0, some p) ≡ admission number set = sym (ap admittedStandsFor e) ∙ a in

@@ -12,7 +12,7 @@ use lib.Dec.{ltb, leb, eqb}
 use borrow.Author.Tests.{lt-ltb, le-ltb, le-leb, lt-leb, eq-eqb, ne-eqb, leb-true, ltb-true, eqb-true}
 use Rattle.numbers.specs.Tests.{both, pick}
 use Rattle.numbers.specs.Lists.{Words}
-use Rattle.gate.specs.Checks.{inside, allBelow, firstFailing, checksOf, checks}
+use Rattle.gate.specs.Checks.{inside, allBelow, firstFailing, checksOf, Checked, checks}
 
 pub both-left : (a b : Bool) → both a b ≡ true → a ≡ true
 both-left true b e = refl
@@ -175,14 +175,15 @@ module _ (M : ℕ) (shares : List ℕ) where
 module _ (shares : List ℕ) (room : ℕ) (inRange : Bool) (M : ℕ) where
   -- what is known where no check of a gadget on shares fails
   pub record Passed : Type 0 where
-    pub first : AllPassed (length shares) room (length shares) inRange ((4, allBelow M shares) ∷ [])
-    pub below : Words (length shares) M shares
+    pub ready : Checked shares room M
+    pub range : inRange ≡ true
 
   pub all-passed : firstFailing (checks shares room inRange M) ≡ 0 → Passed
   unfolding firstFailing checks
   all-passed e =
       let c = all-checked (length shares) room (length shares) inRange ((4, allBelow M shares) ∷ []) e in
-      record { first = c; below = below-words M shares (first (allBelow M shares) 4 0 (c .later) (λ z. omega arith) .0) }
+      let below = below-words M shares (first (allBelow M shares) 4 0 (c .later) (λ z. omega arith) .0) in
+      record { ready = record { least = c .least; most = c .most; below = below; fits = c .fits }; range = c .range }
 
 -- the bound of a width that is in range
 bound-of-width : {k r : ℕ} → r ≡ 2 ^ (k % 32) → k ≤ 31 → r ≡ 2 ^ k

@@ -6,7 +6,6 @@ use Prim.Native.Nat.{ℕ, _*_, _≤_}
 use native.Mathlib.Omega.{arith}
 use lib.ListN.{length, take}
 use borrow.Author.Tests.{eq-eqb, ne-eqb}
-use Rattle.numbers.specs.Lists.{Words}
 use Rattle.tape.specs.declared.Cursor.{Cursor}
 use Rattle.tape.specs.Tape.{Ran, ended, ran, start}
 use Rattle.draws.specs.Draws.{Draws, done, bind, after, next, run}
@@ -15,12 +14,11 @@ use Rattle.shares.specs.Sharing.{Sharing, bound}
 use Rattle.shares.specs.Refresh.{refresh}
 use Rattle.shares.specs.declared.Shared.{Shared}
 use Rattle.shares.specs.Arrays.{Held, Copied, shared, Gave}
-use Rattle.gate.specs.Checks.{firstFailing, checksOf, checks}
+use Rattle.gate.specs.Checks.{firstFailing, checksOf, Checked, checks}
 use Rattle.gate.specs.declared.Answer.{Answer}
-use Rattle.gate.specs.Told.{Told, refusal, Outcome, silent, silentRan, ranTold, Call, checkNumber, told, standsFor}
+use Rattle.gate.specs.Told.{Told, refusal, Outcome, silent, openedRan, silentRan, ranTold, Call, checkNumber, told, standsFor}
 use Rattle.gate.specs.Gadget.{Gadget, silentSteps, silentGadget, closed, call, tells}
 use Rattle.gate.specs.Sampler.{Sampler, samplerCall, samples}
-use Rattle.gate.proofs.CheckLaws.{Passed}
 
 module _ (c : Call) (tape : List ℕ) where
   -- no check fails
@@ -33,14 +31,20 @@ module _ (c : Call) (tape : List ℕ) where
   unfolding told
   tells-refused n = rw (ne-eqb (checkNumber c) 0 n)
 
--- steps that open nothing, run
-pub run-silent : (d : Draws (List ℕ)) (tape : List ℕ) (p : Cursor) → run (silentSteps d) tape p ≡ silentRan (run d tape p)
-unfolding silentSteps next after silentRan run
-run-silent d tape p = run-bind d (λ xs. done (silent xs)) tape p ∙ last (run d tape p)
+-- shares given after numbers were opened, run
+pub run-opened : (opened : List ℕ) (d : Draws (List ℕ)) (tape : List ℕ) (p : Cursor) →
+    run (bind d (λ xs. done (record { opened = opened; shares = xs }))) tape p ≡ openedRan opened (run d tape p)
+unfolding next after openedRan run
+run-opened opened d tape p = run-bind d (λ xs. done (record { opened = opened; shares = xs })) tape p ∙ last (run d tape p)
   where
-    last : (x : Ran (List ℕ)) → next x (λ zs c. run (done (silent zs)) tape c) ≡ silentRan x
+    last : (x : Ran (List ℕ)) → next x (λ zs c. run (done (record { opened = opened; shares = zs })) tape c) ≡ openedRan opened x
     last ended = refl
     last (ran zs c) = refl
+
+-- so of steps that open nothing
+pub run-silent : (d : Draws (List ℕ)) (tape : List ℕ) (p : Cursor) → run (silentSteps d) tape p ≡ silentRan (run d tape p)
+unfolding silentSteps
+run-silent d tape p = run-opened [] d tape p
 
 -- closed, they are the steps and then the refresh
 pub closed-silent : (s : Sharing) (d : Draws (List ℕ)) (tape : List ℕ) (p : Cursor) → run (closed s (silentSteps d)) tape p ≡ silentRan (run (bind d (refresh s)) tape p)
@@ -53,11 +57,11 @@ closed-silent s d tape p =
 -- what the code's answers stand for
 module _ (x : Ran (List ℕ)) (out : List ℕ) where
   pub told-ended : x ≡ ended → refusal 0 5 out ≡ ranTold 0 (silentRan x) out
-  unfolding ranTold silentRan
+  unfolding ranTold openedRan
   told-ended e = rw e
 
   pub told-ran : {ys : List ℕ} {c : Cursor} → x ≡ ran ys c → (r : Answer) → r .number ≡ 0 → r .used ≡ c .at → standsFor r ys ≡ ranTold 0 (silentRan x) out
-  unfolding ranTold standsFor silentRan
+  unfolding ranTold standsFor openedRan
   told-ran e r f g = rw (e, f, g)
 
 -- a call keeps its promise where a check failed
@@ -114,15 +118,11 @@ pub closed-on-copy : (d : List ℕ → Draws (List ℕ)) (output : Sharing) {sha
 closed-on-copy d output {shares} tape {r = r} w e f g h =
     ap (λ (n : ℕ). shared n r) e ∙ h .is ∙ ap (λ x. next x (λ xs p. run (refresh output xs) tape p)) (on-copy d tape w refl f g) ∙ sym (run-bind (d shares) (refresh output) tape start)
 
--- as many words as there are shares, where no check failed
-held-all : {shares words : List ℕ} {room : ℕ} {inRange : Bool} {M N : ℕ} → Passed shares room inRange M → 2 ≤ N → Words 8 N words → Held 8 (length shares) N words
-held-all p two w = record { least = p .first .least; most = p .first .most; two = two; all = w }
+-- as many words as there are shares, where no check failed: the copied shares, below M
+module _ {shares : List ℕ} {room M : ℕ} (c : Checked shares room M) where
+  pub held : {words : List ℕ} → 2 ≤ M → Copied 8 shares words → Held 8 (length shares) M words
+  held two w = record { least = c .least; most = c .most; two = two; all = w .rest M (omega arith) (c .below) }
 
--- the copied shares, below M
-pub held : {shares words : List ℕ} {room : ℕ} {inRange : Bool} {M : ℕ} → Passed shares room inRange M → 2 ≤ M → Copied 8 shares words → Held 8 (length shares) M words
-held {M = M} p two w = held-all p two (w .rest M (omega arith) (p .below))
-
--- and what the steps gave of them, below N
-pub held-given : {shares : List ℕ} {room : ℕ} {inRange : Bool} {M N : ℕ} {s : Shared} {x : Ran (List ℕ)} → Passed shares room inRange M → 2 ≤ N →
-    Gave (length shares) N s x → s .ok ≡ true → Held 8 (length shares) N (s .words)
-held-given p two g t = held-all p two (g .below t)
+  -- and what the steps gave of them, below N
+  pub held-given : {N : ℕ} {s : Shared} {x : Ran (List ℕ)} → 2 ≤ N → Gave (length shares) N s x → s .ok ≡ true → Held 8 (length shares) N (s .words)
+  held-given two g t = record { least = c .least; most = c .most; two = two; all = g .below t }

@@ -1,10 +1,12 @@
 -- The checks before a gadget runs, and their order (document 01, "What a caller gets back").
+use mathlib.Core.Path.{_≡_}
 use mathlib.Core.Bool.{Bool, true}
 use mathlib.Core.List.{List, [], _∷_}
-use Prim.Native.Nat.{ℕ}
+use Prim.Native.Nat.{ℕ, _≤_}
 use lib.ListN.{length}
 use lib.Dec.{leb, ltb, eqb}
 use Rattle.numbers.specs.Tests.{both, pick}
+use Rattle.numbers.specs.Lists.{Words}
 
 -- a number from low to high
 unfoldable pub inside : ℕ → ℕ → ℕ → Bool
@@ -27,3 +29,10 @@ checksOf n room words inRange more = (1, inside 2 8 n) ∷ (2, eqb room words) �
 -- of a gadget on shares: also the shares
 unfoldable pub checks : List ℕ → ℕ → Bool → ℕ → List (ℕ × Bool)
 checks shares room inRange M = checksOf (length shares) room (length shares) inRange ((4, allBelow M shares) ∷ [])
+
+-- where none fails of a gadget on shares: two to eight of them, below M, and an output slice of as many words
+pub record Checked (shares : List ℕ) (room M : ℕ) : Type 0 where
+  pub least : 2 ≤ length shares
+  pub most : length shares ≤ 8
+  pub below : Words (length shares) M shares
+  pub fits : room ≡ length shares

@@ -30,9 +30,13 @@ pub record Outcome : Type 0 where
 abbrev pub silent : List ℕ → Outcome
 silent xs = record { opened = []; shares = xs }
 
-unfoldable pub silentRan : Ran (List ℕ) → Ran Outcome
-silentRan ended = ended
-silentRan (ran xs c) = ran (silent xs) c
+-- shares that were given, with the numbers that were opened before; or with none
+unfoldable pub openedRan : List ℕ → Ran (List ℕ) → Ran Outcome
+openedRan opened ended = ended
+openedRan opened (ran xs c) = ran (record { opened = opened; shares = xs }) c
+
+abbrev pub silentRan : Ran (List ℕ) → Ran Outcome
+silentRan x = openedRan [] x
 
 -- the tape ends before the last draw, which leaves `short` in the output slice, or the number is 0 and the shares fill it
 unfoldable pub ranTold : ℕ → Ran Outcome → (short : List ℕ) → Told

@@ -1,13 +1,17 @@
 // Between a caller's slices and arrays of shares: the checks in their order, the answer, and copies in and out.
+use params::Choice;
 use params::Params;
 use shares::Shared;
 use words::power;
 ghost use mathlib.Core.Path.{_≡_};
+ghost use mathlib.Core.Bool.{true};
 ghost use mathlib.Core.List.{List, []};
 ghost use Prim.Native.Nat.{ℕ, _*_, _%_, _^_, _≤_};
 ghost use lib.ListN.{length, take, replicate};
+ghost use Rattle.params.specs.Sets.{known};
 ghost use Rattle.shares.specs.Arrays.{Copied, shared};
 ghost use Rattle.gate.specs.Checks.{inside, allBelow, firstFailing, checksOf, checks};
+ghost use Rattle.gate.specs.Admission.{admittedStandsFor, admission};
 ghost use Rattle.gate.specs.Told.{refusal, silentRan, ranTold, standsFor};
 
 // What a caller gets back: 0, or the number of a refusal; and how many tape words were read, 0 in a refusal.
@@ -47,6 +51,20 @@ fn all_below(shares: &[u32], m: u32) -> bool
         }
     }
     true
+}
+
+// The set, where no check has failed. An unknown one has failed its check.
+pub fn admit(set: u32, number: u32) -> Admitted
+    requires { ⌜ (number ≡ 0 → known set ≡ true) ⌝ }
+    ensures { λ r. ⌜ admittedStandsFor r ≡ admission number set ⌝ }
+{
+    if number != 0 {
+        return Admitted::Refused(number);
+    }
+    let Choice::Set(p) = Params::of_set(set) else {
+        return Admitted::Refused(3);
+    };
+    Admitted::Set(p)
 }
 
 // The number of the first of the checks 1 to 3 that fails, or 0: the share count, the room for so many coefficients, the parameters.

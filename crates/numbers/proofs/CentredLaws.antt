@@ -78,15 +78,15 @@ module _ (M x g : ℕ) (low : x ≤ g + M / 2) (high : g + M / 2 < x + M) where
 
 -- a residue of size at most b, with b added, is at most 2b, and less b again it is what the residue means
 module _ (M b x : ℕ) (l : x < M) (room : 2 * b < M) (h : natAbs (centred M x) ≤ b) where
-  record Reached : Type 0 where
+  record Within : Type 0 where
     most : addMod M x b ≤ 2 * b
     is : pos (addMod M x b) -ℤ pos b ≡ centred M x
 
-  reached : Reached
+  within : Within
   unfolding centred addMod
-  reached = go (decLe x (M / 2))
+  within = go (decLe x (M / 2))
     where
-      go : Dec (x ≤ M / 2) → Reached
+      go : Dec (x ≤ M / 2) → Within
       go (yes k) =
           let c : centred M x ≡ pos x = rw (le-leb x (M / 2) k) in
           let small : x ≤ b = subst (λ (z : ℤ). natAbs z ≤ b) c h in
@@ -101,7 +101,7 @@ module _ (M b x : ℕ) (l : x < M) (room : 2 * b < M) (h : natAbs (centred M x) 
           record { most = rw sum (omega arith); is = rw sum (less-under (x + b - M) b (omega arith) ∙ ap negsuc back ∙ sym c) }
 
   pub reach-most : addMod M x b ≤ 2 * b
-  reach-most = reached .most
+  reach-most = within .most
 
   pub reach-is : pos (addMod M x b) -ℤ pos b ≡ centred M x
-  reach-is = reached .is
+  reach-is = within .is

@@ -10,7 +10,7 @@ use Rattle.numbers.specs.Bits.{alpha}
 use Rattle.numbers.proofs.BitsLaws.{alpha-smallest}
 use Rattle.params.specs.declared.Bounds.{Bounds}
 use Rattle.params.specs.declared.Params.{Params}
-use Rattle.params.specs.Laws.{Reached, Laws}
+use Rattle.params.specs.Laws.{KindLaws, Laws}
 
 -- for at most eight shares α is at most 3, which leaves room for 2^α·q in a word
 pub alpha-most : (n : ℕ) → n ≤ 8 → alpha n ≤ 3
@@ -30,7 +30,7 @@ power-below i j h = go (decLt i j)
 module _ {p : Params} (l : Laws p) where
   -- 4γ1 is at most q, so a mask is drawn with 1 to 21 bits
   pub mask-small : 4 * p .gamma1 ≤ q
-  mask-small = omega (arith, l .reach1, l .reached1 .quarter)
+  mask-small = omega (arith, l .reach1, l .laws1 .quarter)
 
   pub mask-least : 1 ≤ p .mu
   mask-least = power-below 0 (p .mu) (omega (arith, l .mask, l .offset))
@@ -38,7 +38,7 @@ module _ {p : Params} (l : Laws p) where
   pub mask-most : p .mu ≤ 21
   mask-most = let h = power-below (p .mu) 22 (omega (arith, l .mask, mask-small)) in omega arith
 
-module _ {k : Bounds} (h : Reached k) where
+module _ {k : Bounds} (h : KindLaws k) where
   -- the widened modulus 2^ρ·q is a word, so ρ is at most 9
   pub rho-most : k .rho ≤ 9
   rho-most = let l = power-below (k .rho) 10 (omega (arith, h .word)) in omega arith

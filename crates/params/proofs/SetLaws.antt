@@ -13,7 +13,7 @@ use Rattle.params.specs.declared.Choice.{Choice}
 use Rattle.params.specs.declared.Choice.the-variants.{Set, Unknown}
 use Rattle.params.specs.Sets.{setOf, ofKind, Known, is-44, is-65, is-87, known, paramsOf}
 use Rattle.params.specs.Answers.{choiceStandsFor}
-use Rattle.params.specs.Laws.{Reached, Laws}
+use Rattle.params.specs.Laws.{KindLaws, Laws}
 
 pub set-laws : {s : ℕ} → Known s → Laws (paramsOf s)
 unfolding setOf paramsOf
@@ -56,10 +56,10 @@ module _ (s : ℕ) (r : Choice) (told : choiceStandsFor r ≡ setOf s) where
   set-unknown e = let n : setOf s ≡ none = sym told ∙ ap choiceStandsFor e in rw n
 
 -- each kind has what is asked of a kind
-pub kind-reached : {p : Params} → Laws p → (kind : ℕ) → Reached (ofKind p kind)
+pub kind-laws : {p : Params} → Laws p → (kind : ℕ) → KindLaws (ofKind p kind)
 unfolding ofKind
-kind-reached {p} l kind = go (eqb kind 1)
+kind-laws {p} l kind = go (eqb kind 1)
   where
-    go : (b : Bool) → Reached (pick b (p .kind1) (p .kind2))
-    go true = l .reached1
-    go false = l .reached2
+    go : (b : Bool) → KindLaws (pick b (p .kind1) (p .kind2))
+    go true = l .laws1
+    go false = l .laws2

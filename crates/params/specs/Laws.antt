@@ -5,8 +5,8 @@ use Rattle.numbers.specs.Modulo.{q}
 use Rattle.params.specs.declared.Bounds.{Bounds}
 use Rattle.params.specs.declared.Params.{Params}
 
--- of a kind: b − a < 2^ρ, 4b ≤ q, ρ at least 1, and 2^ρ·q a word
-pub record Reached (k : Bounds) : Type 0 where
+-- of the bounds of a kind: b − a < 2^ρ, and 4b ≤ q; ρ is at least 1, since a draw is below 2 or more, and 2^ρ·q is a word
+pub record KindLaws (k : Bounds) : Type 0 where
   pub past : k .b < k .a + 2 ^ k .rho
   pub quarter : 4 * k .b ≤ q
   pub least : 1 ≤ k .rho
@@ -19,7 +19,7 @@ pub record Laws (p : Params) : Type 0 where
   pub mask : 2 ^ p .mu ≡ 2 * p .gamma1
   -- 2γ2·δ = q − 1
   pub parts : 2 * p .gamma2 * p .delta ≡ q - 1
-  -- δ is from 2 to 63, so that δ·2^26 is a word
+  -- δ is at least 2, since a draw is below 2 or more, and at most 63, so that δ·2^26 is a word
   pub parts-least : 2 ≤ p .delta
   pub parts-most : p .delta ≤ 63
   -- kind 1: a = γ1 − β, b = γ1 + β
@@ -28,5 +28,5 @@ pub record Laws (p : Params) : Type 0 where
   -- kind 2: a = γ2 − β, b = γ2
   pub bound2 : p .kind2 .a + p .beta ≡ p .gamma2
   pub reach2 : p .kind2 .b ≡ p .gamma2
-  pub reached1 : Reached (p .kind1)
-  pub reached2 : Reached (p .kind2)
+  pub laws1 : KindLaws (p .kind1)
+  pub laws2 : KindLaws (p .kind2)

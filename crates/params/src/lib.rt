@@ -1,6 +1,6 @@
-// The parameter sets of ML-DSA: in code the constants of each stand here alone.
+// The parameter sets of ML-DSA: in the library's code the constants of each stand here alone.
 ghost use mathlib.Core.Path.{_≡_};
-ghost use Rattle.params.specs.Sets.{bounds, setOf, ofKind};
+ghost use Rattle.params.specs.Sets.{bounds, setOf, known, ofKind};
 ghost use Rattle.params.specs.Answers.{choiceStandsFor};
 
 // Of one kind of coefficient: a size below the bound a is accepted, up to the reach b widening keeps the value, and rho is the verdict's shift.
@@ -76,6 +76,15 @@ impl Params {
                 kind2: Bounds::of(261768, 261888, 7),
             }),
             _ => Choice::Unknown,
+        }
+    }
+
+    pub fn known(set: u32) -> bool
+        ensures { λ r. ⌜ r ≡ known set ⌝ }
+    {
+        match Params::of_set(set) {
+            Choice::Set(p) => true,
+            Choice::Unknown => false,
         }
     }
 

@@ -1,8 +1,8 @@
 // The residues of a line.
-use super::random::mix;
-use super::random::step;
 use super::tried::Tally;
 use super::tried::tried;
+use trials::mix;
+use trials::step;
 ghost use Prim.Native.Nat.{_<_, _≤_};
 
 // All residues, in two shares. Set 44 skips three words in ten, so 25 draws below δ times a power of two use some 36 words.
@@ -77,14 +77,11 @@ fn some(set: u32, n: usize) -> Tally
     anywhere(t, set, n, &mut tape)
 }
 
-// Sets 65 and 87 have one γ2, so one of the two is enough for all residues.
 pub fn tally(set: u32, n: usize) -> Tally
     requires { ⌜ n ≤ 8 ⌝ }
 {
     if n == 2 {
-        if set != 87 {
-            return all(set);
-        }
+        return all(set);
     }
     some(set, n)
 }

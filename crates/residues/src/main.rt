@@ -1,8 +1,7 @@
-// Holds Decompose in shares to a plain one: in two shares at every residue, for both values of γ2; in more shares, and for set 87,
-// at those where the parts change, and at many others. docs/CASES.md says at which.
+// Holds Decompose in shares to a plain one: in two shares at every residue, for every set; in more shares at those where the parts change,
+// and at many others. docs/CASES.md says at which.
 mod lines;
 mod plain;
-mod random;
 mod tried;
 
 ghost use Prim.Native.Nat.{_≤_};

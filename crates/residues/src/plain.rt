@@ -1,4 +1,5 @@
 // FIPS 204's Decompose without shares. It does not divide: it counts.
+use trials::gamma2;
 ghost use Prim.Native.Nat.{_+_, _<_, _≤_};
 
 // The high part, and the low part as a residue.
@@ -7,17 +8,8 @@ pub struct Parts {
     pub low: u32,
 }
 
-fn gamma2(set: u32) -> u32
-    ensures { λ r. ⌜ (0 < r) × (r ≤ 261888) ⌝ }
-{
-    match set {
-        44 => 95232,
-        _ => 261888,
-    }
-}
-
 // The difference as a residue.
-fn minus(x: u32, y: u32) -> u32
+pub fn minus(x: u32, y: u32) -> u32
     requires { ⌜ y ≤ x + 8380417 ⌝ }
 {
     if y <= x {

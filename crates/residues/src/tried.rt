@@ -1,10 +1,11 @@
 // Decompose in shares, held to the plain one.
 use super::plain::Parts;
 use super::plain::decomposed;
-use super::random::fill;
-use super::random::mix;
+use super::plain::minus;
 use gadgets::decompose;
-use gadgets::refresh;
+use trials::fill;
+use trials::mix;
+use trials::recombined;
 ghost use Prim.Native.Nat.{_<_, _≤_};
 
 // How many residues were tried, at how many the answer was wrong, and a checksum of the answers.
@@ -44,31 +45,22 @@ fn mismatch(number: u32, told: Parts, right: Parts) -> u32 {
     1
 }
 
-fn plus(x: u32, y: u32) -> u32 {
-    ((x as u64 + y as u64) % 8380417) as u32
-}
-
-fn recombined(shares: &[u32]) -> u32 {
-    let mut sum = 0;
-    for i in 0..shares.len() {
-        sum = plus(sum, shares[i]);
+// Words become shares of the residue: each modulo q, and the last what the others leave.
+fn share(residue: u32, words: &mut [u32]) {
+    if words.len() == 0 {
+        return;
     }
-    sum
-}
-
-// Fresh shares of the residue: a refresh makes them of `whole`, which begins as zeros. Answers the last pseudo-random word.
-fn share(residue: u32, x: u32, whole: &mut [u32], shares: &mut [u32]) -> u32 {
-    if whole.len() == 0 {
-        return x;
+    let last = words.len() - 1;
+    let mut left = residue;
+    for i in 0..last {
+        let word = words[i] % 8380417;
+        words[i] = word;
+        left = minus(left, word);
     }
-    whole[0] = residue;
-    let mut few = [0u32; 16];
-    let last = fill(&mut few, x);
-    refresh(whole, &few, 8380417, shares);
-    last
+    words[last] = left;
 }
 
-// One residue, on a tape that is filled anew. The room for the low shares, which begins as zeros, first holds the residue whole.
+// One residue, in fresh shares and on a tape that is filled anew.
 fn on_room(
     t: Tally,
     set: u32,
@@ -79,7 +71,8 @@ fn on_room(
 ) -> Tally
     requires { ⌜ residue < 8380417 ⌝ }
 {
-    let x = share(residue, t.x, low, shares);
+    let x = fill(shares, t.x);
+    share(residue, shares);
     let last = fill(tape, x);
     let told = decompose(shares, tape, set, low);
     let parts = Parts {

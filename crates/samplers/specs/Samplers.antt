@@ -1,9 +1,7 @@
 -- Both samplers as gadgets (document 01, "Steps"; the ranges, "What a caller gets back").
-use mathlib.Core.List.{[]}
-use Prim.Native.Nat.{ℕ, _*_}
+use Prim.Native.Nat.{ℕ}
 use lib.ListN.{length, replicate}
 use Rattle.params.specs.Sets.{known, paramsOf}
-use Rattle.gate.specs.Checks.{firstFailing, checksOf}
 use Rattle.gate.specs.Sampler.{Sampler}
 use Rattle.sample.specs.Sampling.{coefficient, polynomial}
 
@@ -20,7 +18,3 @@ polynomialSampler set =
       steps = λ n out. polynomial (paramsOf set) n out;
       short = λ out. replicate (length out) 0;
     }
-
--- the number of the first check of such a call that fails, or 0
-abbrev pub samplerNumber : (n coefficients room set : ℕ) → ℕ
-samplerNumber n coefficients room set = firstFailing (checksOf n room (coefficients * n) (known set) [])

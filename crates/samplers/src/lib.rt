@@ -1,11 +1,11 @@
 // The public samplers of a mask in shares. The share count n is stated, since there are no shares to count.
 use gate::Admitted;
 use gate::Answer;
+use gate::admit;
 use gate::clear;
 use gate::finish;
 use gate::first_of_three;
 use gate::refused;
-use params::Choice;
 use params::Params;
 use sample::Written;
 use sample::coefficient;
@@ -20,28 +20,14 @@ ghost use Rattle.draws.specs.Draws.{run};
 ghost use Rattle.sample.specs.Sampling.{polynomial};
 ghost use Rattle.gate.specs.Told.{silentRan, ranTold, standsFor};
 ghost use Rattle.gate.specs.Sampler.{samples};
-ghost use Rattle.gate.specs.Admission.{admittedStandsFor, admission};
-ghost use Rattle.samplers.specs.Samplers.{samplerNumber, sampler, polynomialSampler};
-
-fn admit(n: usize, coefficients: usize, room: usize, set: u32) -> Admitted
-    requires { ⌜ coefficients ≤ 256 ⌝ }
-    ensures { λ r. ⌜ admittedStandsFor r ≡ admission (samplerNumber n coefficients room set) set ⌝ }
-{
-    let Choice::Set(p) = Params::of_set(set) else {
-        return Admitted::Refused(first_of_three(n, coefficients, room, false));
-    };
-    let number = first_of_three(n, coefficients, room, true);
-    if number != 0 {
-        return Admitted::Refused(number);
-    }
-    Admitted::Set(p)
-}
+ghost use Rattle.samplers.specs.Samplers.{sampler, polynomialSampler};
 
 pub fn sample(tape: &[u32], n: usize, set: u32, out: &mut [u32]) -> Answer
     ensures { λ r. ⌜ standsFor r (now (out .exit)) ≡ samples (sampler set) n (now (tape .entry)) (now (out .entry)) ⌝ }
 {
-    match admit(n, 1, out.len(), set) {
-        Admitted::Refused(number) => refused(number),
+    let number = first_of_three(n, 1, out.len(), Params::known(set));
+    match admit(set, number) {
+        Admitted::Refused(k) => refused(k),
         Admitted::Set(p) => finish(coefficient(p, n, Cursor::start(), tape), out),
     }
 }
@@ -64,8 +50,9 @@ fn fill(p: Params, n: usize, tape: &[u32], out: &mut [u32]) -> Answer
 pub fn sample_polynomial(tape: &[u32], n: usize, set: u32, out: &mut [u32]) -> Answer
     ensures { λ r. ⌜ standsFor r (now (out .exit)) ≡ samples (polynomialSampler set) n (now (tape .entry)) (now (out .entry)) ⌝ }
 {
-    match admit(n, Params::COEFFICIENTS, out.len(), set) {
-        Admitted::Refused(number) => refused(number),
+    let number = first_of_three(n, Params::COEFFICIENTS, out.len(), Params::known(set));
+    match admit(set, number) {
+        Admitted::Refused(k) => refused(k),
         Admitted::Set(p) => fill(p, n, tape, out),
     }
 }

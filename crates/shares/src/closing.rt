@@ -1,4 +1,4 @@
-// The closing refresh of what a gadget's steps gave. Where the tape has ended, nothing follows.
+// The refresh of what steps gave: the one that closes a gadget, and the one before an opening. Where the tape has ended, nothing follows.
 use super::Shared;
 use super::arithmetic::refresh;
 use super::boolean::refresh_boolean;

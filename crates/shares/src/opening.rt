@@ -1,4 +1,4 @@
-// The opening of shares mod m: their sum. What is opened is no secret any more, so a refresh comes before.
+// The opening of shares mod m: their sum. A refresh comes before it, so that the shares that are opened tell no more than the sum.
 use params::Params;
 use words::add_mod;
 ghost use mathlib.Core.Path.{_≡_};

@@ -1,5 +1,5 @@
--- What shares tell of how often they wrap around: over any modulus, width and number of shares, whatever the draws. The conversion to mod Q
--- cites it, and so can widening, Decompose and further moduli.
+-- What shares tell of how often they wrap around: over any modulus, width and number of shares, whatever the draws. The conversion to mod Q,
+-- widening and Decompose cite it, and so can further moduli.
 use mathlib.Core.Path.{_≡_, refl, sym, ap, subst, _∙_}
 use mathlib.Core.List.{List, [], _∷_}
 use Prim.Native.Nat.{ℕ, suc, _+_, _-_, _*_, _/_, _%_, _^_, _≤_, _<_}

@@ -66,9 +66,9 @@ pub fn raised_shift(
 pub fn carries_by_q(
     shares: [u32; Params::MOST],
     n: usize,
-    c: u32,
     m: u32,
     t: u32,
+    c: u32,
     cursor: Cursor,
     tape: &[u32],
 ) -> Shared

@@ -12,7 +12,7 @@ use Rattle.numbers.specs.Bits.{alpha}
 use Rattle.numbers.specs.Lists.{Words}
 use Rattle.numbers.proofs.BitsLaws.{alpha-smallest}
 use Rattle.params.specs.declared.Bounds.{Bounds}
-use Rattle.params.specs.Laws.{Reached}
+use Rattle.params.specs.Laws.{KindLaws}
 use Rattle.params.proofs.RoomLaws.{reach-below}
 use Rattle.tape.specs.declared.Cursor.{Cursor}
 use Rattle.tape.specs.Tape.{ended, ran}
@@ -22,28 +22,28 @@ use Rattle.shares.specs.Sharing.{arithmetic, addToFirst, takeFromFirst}
 use Rattle.shares.proofs.FirstLaws.{added-take, added-words, taken-take, taken-words}
 use Rattle.switching.specs.Switching.{carries, without}
 use Rattle.switching.proofs.StepLaws.{without-take, without-words}
-use Rattle.widening.specs.Widening.{wide, widened, widen}
+use Rattle.widening.specs.Widening.{wide, widened, widenShift, widen}
 
 -- the multiple of q that is taken from a share is below the widened modulus
-pub wrap-below : {wraps m e : ℕ} → m ≡ wraps * q → e < wraps → q * e < m
-wrap-below {wraps} {m} {e} f h = omega (arith, mul-le-mul-left q h)
+pub multiple-below : {factor m e : ℕ} → m ≡ factor * q → e < factor → q * e < m
+multiple-below {factor} {m} {e} f h = omega (arith, mul-le-mul-left q h)
 
 -- and so is the share
-pub share-below : {wraps m x : ℕ} → m ≡ wraps * q → 1 ≤ wraps → x < q → x < m
-share-below {wraps} f h l = omega (arith, mul-le-mul-left q h)
+pub share-below : {factor m x : ℕ} → m ≡ factor * q → 1 ≤ factor → x < q → x < m
+share-below {factor} f h l = omega (arith, mul-le-mul-left q h)
 
 -- what is made of the shares with b added and of their carries
 unfoldable taken-off : Bounds → List ℕ → List ℕ → List ℕ
 taken-off k ys es = takeFromFirst (widened k) (k .b) (without (wide k) q es ys)
 
-whole-is : {n t : ℕ} (k : Bounds) (ws : List ℕ) → 0 < n → n ≤ length ws → t ≡ alpha n + 1 →
+whole-is : {n t : ℕ} (k : Bounds) (ws : List ℕ) → 0 < n → n ≤ length ws → t ≡ widenShift n →
     let ys = take n (addToFirst (arithmetic q) (k .b) ws) in widen k (take n ws) ≡ bind (carries (2 ^ k .rho) t (2 ^ t) q ys) (λ es. done (taken-off k ys es))
 unfolding widen taken-off
 whole-is {n} {t} k ws pos most is =
-    let same : alpha (length (take n ws)) + 1 ≡ t = ap (λ (j : ℕ). alpha j + 1) (length-take-le n ws most) ∙ sym is in
+    let same : widenShift (length (take n ws)) ≡ t = ap widenShift (length-take-le n ws most) ∙ sym is in
     rw (same, added-take (arithmetic q) (k .b) n ws pos)
 
-module _ {n t : ℕ} (k : Bounds) (ws tape : List ℕ) (p : Cursor) (pos : 0 < n) (most : n ≤ length ws) (is : t ≡ alpha n + 1) where
+module _ {n t : ℕ} (k : Bounds) (ws tape : List ℕ) (p : Cursor) (pos : 0 < n) (most : n ≤ length ws) (is : t ≡ widenShift n) where
   abbrev ys : List ℕ
   ys = addToFirst (arithmetic q) (k .b) ws
 
@@ -59,7 +59,7 @@ module _ {n t : ℕ} (k : Bounds) (ws tape : List ℕ) (p : Cursor) (pos : 0 < n
       ∙ sym (part-ran _ _ tape p (whole-is k ws pos most is) e ∙ run-done (taken-off k (take n ys) (take n es)) tape c)
 
 -- the words that are handed on, all eight
-module _ {k : Bounds} (h : Reached k) where
+module _ {k : Bounds} (h : KindLaws k) where
   pub offset-words : {ws : List ℕ} → Words 8 q ws → Words 8 q (addToFirst (arithmetic q) (k .b) ws)
   offset-words w = added-words (arithmetic q) (k .b) (omega arith) (reach-below h) w
 

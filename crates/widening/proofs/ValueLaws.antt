@@ -15,7 +15,7 @@ use Rattle.numbers.specs.Centred.{centred}
 use Rattle.numbers.proofs.BitsLaws.{alpha-smallest}
 use Rattle.numbers.proofs.CentredLaws.{reach-most, reach-is, centred-sub}
 use Rattle.params.specs.declared.Bounds.{Bounds}
-use Rattle.params.specs.Laws.{Reached}
+use Rattle.params.specs.Laws.{KindLaws}
 use Rattle.params.proofs.RoomLaws.{reach-below}
 use Rattle.draws.specs.Draws.{Draws, done, bind}
 use Rattle.draws.proofs.Outcomes.{Gives}
@@ -27,7 +27,7 @@ use Rattle.shares.proofs.FirstLaws.{added-first, taken-first, taken-words}
 use Rattle.switching.specs.Switching.{carries, without}
 use Rattle.switching.proofs.StepLaws.{without-words}
 use Rattle.switching.proofs.CarryLaws.{carries-give, switch-keeps}
-use Rattle.widening.specs.Widening.{wide, widened, widen, widenPlan}
+use Rattle.widening.specs.Widening.{wide, widened, widenShift, widen, widenPlan}
 use Rattle.widening.proofs.StepLaws.{wide-least, wide-two, reach-wide}
 
 -- the floor of X·2^(α+1)/Q leaves room for d below 2^α, if X is at most Q/2
@@ -42,9 +42,9 @@ pub record Widened (k : Bounds) (n x : ℕ) (ys : List ℕ) : Type 0 where
   pub words : Words n (wide k) ys
   pub kept : natAbs (centred q x) ≤ k .b → centred (wide k) (value (widened k) ys) ≡ centred q x
 
-module _ {k : Bounds} (h : Reached k) (d x : ℕ) {xs : List ℕ} (a : Shares (arithmetic q) (suc d) x xs) where
+module _ {k : Bounds} (h : KindLaws k) (d x : ℕ) {xs : List ℕ} (a : Shares (arithmetic q) (suc d) x xs) where
   t : ℕ
-  t = alpha (suc d) + 1
+  t = widenShift (suc d)
 
   ys : List ℕ
   ys = addToFirst (arithmetic q) (k .b) xs
@@ -117,7 +117,7 @@ module _ {k : Bounds} (h : Reached k) (d x : ℕ) {xs : List ℕ} (a : Shares (a
       go (no out) = beyond out
 
 -- widening makes the planned draws, and whatever they give, it keeps the value within the reach
-pub widen-gives : {k : Bounds} → Reached k → (n x : ℕ) (xs : List ℕ) → 0 < n → Shares (arithmetic q) n x xs → Gives (Widened k n x) (widen k xs) (widenPlan k n)
+pub widen-gives : {k : Bounds} → KindLaws k → (n x : ℕ) (xs : List ℕ) → 0 < n → Shares (arithmetic q) n x xs → Gives (Widened k n x) (widen k xs) (widenPlan k n)
 widen-gives {k} h n x xs some a =
     let one : suc (n - 1) ≡ n = omega arith in
     subst (λ (m : ℕ). Gives (Widened k m x) (widen k xs) (widenPlan k m)) one (either h (n - 1) x (subst (λ (m : ℕ). Shares (arithmetic q) m x xs) (sym one) a))

@@ -17,15 +17,19 @@ wide k = 2 ^ k .rho * q
 abbrev pub widened : Bounds → Sharing
 widened k = arithmetic (wide k)
 
+-- the shift, for n shares: by α + 1
+abbrev pub widenShift : ℕ → ℕ
+widenShift n = alpha n + 1
+
 -- b is added to share 1 mod q; the floors of x_i·2^(α+1)/q mod 2^(α+1+ρ), n − 1 added to the first and shifted by α + 1, are e_i; share i is
 -- x_i − q·e_i mod 2^ρ·q; and b is taken from share 1
 unfoldable pub widen : Bounds → List ℕ → Draws (List ℕ)
 widen k xs =
-    let t : ℕ = alpha (length xs) + 1 in
+    let t : ℕ = widenShift (length xs) in
     let ys : List ℕ = addToFirst (arithmetic q) (k .b) xs in
     bind (carries (2 ^ k .rho) t (2 ^ t) q ys) (λ es.
     done (takeFromFirst (widened k) (k .b) (without (wide k) q es ys)))
 
 -- its plan: the shift's
 unfoldable pub widenPlan : Bounds → ℕ → List ℕ
-widenPlan k n = shiftPlan (2 ^ k .rho) (alpha n + 1) n
+widenPlan k n = shiftPlan (2 ^ k .rho) (widenShift n) n

@@ -14,7 +14,7 @@ ghost use Prim.Native.Nat.{_*_, _≤_, _<_};
 ghost use lib.ListN.{take};
 ghost use Rattle.numbers.specs.Modulo.{q};
 ghost use Rattle.numbers.specs.Lists.{Words};
-ghost use Rattle.params.specs.Laws.{Reached};
+ghost use Rattle.params.specs.Laws.{KindLaws};
 ghost use Rattle.draws.specs.Draws.{run};
 ghost use Rattle.shares.specs.Arrays.{Held, Gave};
 ghost use Rattle.switching.specs.Switching.{without};
@@ -22,20 +22,21 @@ ghost use Rattle.widening.specs.Widening.{wide, widen};
 
 // The modulus 2^rho·q of the widened shares.
 pub fn wide(k: Bounds) -> u32
-    requires { ⌜ Reached k ⌝ }
+    requires { ⌜ KindLaws k ⌝ }
     ensures { λ r. ⌜ r ≡ wide k ⌝ }
 {
     power(k.rho) * Params::Q
 }
 
-// x − q·e mod m of each word x and its carry e. With x below q and e below 2^rho, both x and q·e are below m = 2^rho·q, so this needs no remainder.
-fn without_wraps(
+// x − q·e mod m of each word x and its carry e. With x below q and e below the factor 2^rho, both x and q·e are below m = 2^rho·q, so this needs no
+// remainder.
+fn without_carries(
     shares: [u32; Params::MOST],
     carries: [u32; Params::MOST],
-    wraps: u32,
+    factor: u32,
     m: u32,
 ) -> [u32; Params::MOST]
-    requires { ⌜ (m ≡ wraps * q) × (1 ≤ wraps) × Words 8 q shares × Words 8 wraps carries ⌝ }
+    requires { ⌜ (m ≡ factor * q) × (1 ≤ factor) × Words 8 q shares × Words 8 factor carries ⌝ }
     ensures { λ r. ⌜ r ≡ without m q carries shares ⌝ }
 {
     let mut words = shares;
@@ -52,13 +53,13 @@ pub fn widen(
     cursor: Cursor,
     tape: &[u32],
 ) -> Shared
-    requires { ⌜ Reached k × Held 8 n q shares ⌝ }
+    requires { ⌜ KindLaws k × Held 8 n q shares ⌝ }
     ensures { λ r. ⌜ Gave n (wide k) r (run (widen k (take n shares)) (now (tape .entry)) cursor) ⌝ }
 {
     let x = add_to_first(shares, k.b, Params::Q);
     let t = alpha(n) + 1;
-    let wraps = power(k.rho);
-    let carries = carries_by_q(x, n, power(t), wraps, t, cursor, tape);
+    let factor = power(k.rho);
+    let carries = carries_by_q(x, n, factor, t, power(t), cursor, tape);
     if !carries.ok {
         return Shared::ended();
     }
@@ -66,7 +67,7 @@ pub fn widen(
     let after = carries.cursor;
     let m = wide(k);
     Shared {
-        words: take_from_first(without_wraps(x, e, wraps, m), k.b, m),
+        words: take_from_first(without_carries(x, e, factor, m), k.b, m),
         cursor: after,
         ok: true,
     }

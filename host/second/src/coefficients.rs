@@ -21,7 +21,7 @@ fn moved(shares: &[u64], by: i64) -> Vec<u64> {
     shares
 }
 
-/// Shares of about the sum of the shares, times `factor` over q. No floor comes near the modulus of the shift that follows.
+/// Shares of about the sum of the shares, times `factor` over q. No floor reaches the modulus of the shift that follows.
 fn scaled(shares: &[u64], factor: u64, modulus: u64) -> Vec<u64> {
     let mut floors: Vec<u64> = shares.iter().map(|x| x * factor / Q).collect();
     floors[0] += shares.len() as u64 - 1;

@@ -30,7 +30,7 @@ fn parts(set: Set, residue: u64) -> [u64; 2] {
 
 fn line(number: u32, n: u32) {
     let set = sets::set(number).expect("it is a set");
-    let residues = if n == 2 && number != 87 { all() } else { some(number, set, n) };
+    let residues = if n == 2 { all() } else { some(number, set, n) };
     let sum = residues.iter().flat_map(|&r| parts(set, r)).fold(0, |sum, part| mix(sum, part as u32));
     println!("{number} {n} {} 0 {sum}", residues.len());
 }

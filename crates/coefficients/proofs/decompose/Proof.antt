@@ -1,70 +1,88 @@
-use borrow.Author.Needs.{needs}
 use mathlib.Core.Path.{_≡_, sym, ap, _∙_}
-use mathlib.Core.Bool.{true}
+use mathlib.Core.Bool.{Bool, true}
 use lib.ListN.{length}
 use denote.Ref.{now}
 use Rattle.numbers.specs.Modulo.{q}
+use Rattle.numbers.specs.Tests.{both}
 use Rattle.params.specs.declared.Params.{Params}
-use Rattle.params.specs.Sets.{known}
+use Rattle.params.specs.Sets.{known, ofKind}
+use Rattle.params.proofs.SetLaws.{kind-laws}
 use Rattle.tape.specs.Tape.{start}
-use Rattle.draws.specs.Draws.{run}
+use Rattle.draws.specs.Draws.{bind, run}
 use Rattle.shares.specs.Sharing.{arithmetic}
-use Rattle.gate.specs.Checks.{firstFailing, checks}
+use Rattle.shares.specs.Refresh.{refresh}
+use Rattle.gate.specs.Checks.{inside, firstFailing, checks}
 use Rattle.gate.specs.Gadget.{closed}
-use Rattle.gate.proofs.CheckLaws.{both-true}
-use Rattle.gate.proofs.GadgetLaws.{gadget-refused, gadget-ran}
-use Rattle.coefficients.specs.Coefficients.{parted, decomposeGadget}
+use Rattle.gate.proofs.CheckLaws.{both-left, Passed, all-passed}
+use Rattle.gate.proofs.AdmitLaws.{not-admitted, Good, good}
+use Rattle.gate.proofs.GadgetLaws.{silent-refused, silent-ran, gadget-refused, gadget-ran}
+use Rattle.widening.specs.Widening.{widened, widen}
+use Rattle.decompose.specs.Decompose.{decompose}
+use Rattle.coefficients.specs.Coefficients.{kindRange, widenGadget, decomposeGadget}
 use Rattle.coefficients.specs.Answers.{partsStandFor}
-use Rattle.coefficients.proofs.AdmitLaws.{number, refuses, Admits, admits}
-use Rattle.coefficients.proofs.TellLaws.{refused-told}
-use Rattle.coefficients.proofs.decompose.Reads as reads
-use Rattle.coefficients.proofs.decompose.Lts as lts
+use borrow.Author.Needs.{needs}
 use Rattle.coefficients.proofs.decompose.Statement.{statement}
 use Rattle.coefficients.proofs.decompose.Tie as tie
-use Rattle.coefficients.proofs.admit.Reads as admit-reads
-use Rattle.coefficients.proofs.beside_high.Reads as beside-high-reads
-use Rattle.coefficients.proofs.part.Reads as part-reads
-use Rattle.gate.proofs.refused.Reads as refused-reads
+use Rattle.coefficients.proofs.decompose.Reads as reads
+use Rattle.coefficients.proofs.decompose.Lts as lts
+use Rattle.coefficients.proofs.decompose_by.Reads as decompose-by-reads
+use Rattle.coefficients.proofs.refused_parts.Reads as refused-parts-reads
+use Rattle.gate.proofs.admit.Reads as admit-reads
+use Rattle.gate.proofs.first_failing.Reads as first-failing-reads
+use Rattle.params.proofs.Params.known.Reads as known-reads
 
--- nothing but the set is in a range
-asked : (c : tie.After-admit) →
-    let a = c .before .before .before .before .args in
-    number (now (a .shares)) (length (now (a .out))) (a .set) true ≡ firstFailing (checks (now (a .shares)) (length (now (a .out))) (known (a .set)) q)
-asked c = let a = c .before .before .before .before .args in ap (λ b. firstFailing (checks (now (a .shares)) (length (now (a .out))) b q)) (both-true (known (a .set)))
+-- the first check that failed, the parameters being in range or not
+number : (c : tie.After-first-failing) →
+    let a = c .before .before .before .before .before .args in
+    c .first-failing .result ≡ firstFailing (checks (now (a .shares)) (length (now (a .out))) (known (a .set)) q)
+number c =
+    let a = c .before .before .before .before .before .args in
+    c .first-failing .ensures ∙ ap (λ (b : Bool). firstFailing (checks (now (a .shares)) (length (now (a .out))) b q)) (c .before .known .ensures)
 
--- no check failed
+-- what is known where none did
+passed : (c : tie.After-first-failing) → c .first-failing .result ≡ 0 →
+    let a = c .before .before .before .before .before .args in
+    Passed (now (a .shares)) (length (now (a .out))) (known (a .set)) q
+passed c e = all-passed _ _ _ _ (sym (number c) ∙ e)
+
+set-known : (c : tie.After-first-failing) → c .first-failing .result ≡ 0 → known (c .before .before .before .before .before .args .set) ≡ true
+set-known c e = passed c e .range
+
 admitted : (c : tie.After-p) →
     let m = c .before .before in
-    let a = m .before .before .before .before .args in
-    Admits (now (a .shares)) (length (now (a .out))) (a .set) true (m .admit .result) (m .admit .ensures) (c .p .given .0 .0)
-admitted c = admits _ _ _ _ _ _ (c .p .given .1)
+    Good (m .before .first-failing .result) (m .before .before .before .before .before .before .args .set) (c .p .given .0 .0)
+admitted c = let m = c .before .before in good _ _ (set-known (m .before)) _ (m .admit .ensures) (c .p .given .1)
+
+known-requires : tie.Need-known-requires
+known-requires c κs = search needs
+
+first-failing-requires : tie.Need-first-failing-requires
+first-failing-requires c κs = search needs
 
 admit-requires : tie.Need-admit-requires
-admit-requires c κs = search needs
+admit-requires c κs = λ e. set-known c e
 
-enum-known-number : tie.Need-enum-known-number
-enum-known-number c = search needs
+enum-known-k : tie.Need-enum-known-k
+enum-known-k c = search needs
 
-refused-requires : tie.Need-refused-requires
-refused-requires c κs = search needs
-
-beside-high-requires : tie.Need-beside-high-requires
-beside-high-requires c κs = search needs
+refused-parts-requires : tie.Need-refused-parts-requires
+refused-parts-requires c κs = search needs
 
 enum-known-p : tie.Need-enum-known-p
 enum-known-p c = search needs
 
-part-requires : tie.Need-part-requires
-part-requires c κs = let g = admitted (c .before .before) in (g .found .laws, g .ready)
+decompose-by-requires : tie.Need-decompose-by-requires
+decompose-by-requires c κs = let p = c .before .before in
+    let g = admitted p in
+    (g .laws, passed (p .before .before .before) (sym (g .passes)) .ready)
 
 returns : tie.Need-returns
 unfolding decomposeGadget
-returns c = let k = c .before .before .before in
+returns c = let k = c .before .before in
     let m = k .before .before in
-    let a = m .before .before .before .before .args in
-    let (e, h) = refuses _ _ _ _ _ (m .admit .ensures) (k .number .given .1) in
-    gadget-refused _ (now (a .shares)) (now (a .tape)) (now (a .out)) (e ∙ asked m) h
-    (ap (λ r. partsStandFor r (now (a .out))) (c .beside-high .ensures) ∙ refused-told _ (now (a .out)) _ (c .before .refused .ensures (now (a .out))))
+    let a = m .before .before .before .before .before .before .args in
+    let (e, h) = not-admitted _ _ (set-known (m .before)) _ (m .admit .ensures) (k .k .given .1) in
+    gadget-refused _ (now (a .shares)) (now (a .tape)) (now (a .out)) (e ∙ number (m .before)) h (c .refused-parts .ensures _)
 
 same-length : tie.Need-same-length
 same-length c = search needs
@@ -74,21 +92,22 @@ unfolding decomposeGadget
 returns-2 c = let f = c .before .before in
     let p = f .before .before .before in
     let m = p .before .before in
-    let a = m .before .before .before .before .args in
+    let a = m .before .before .before .before .before .before .args in
     let g = admitted p in
-    gadget-ran _ (now (a .shares)) (now (a .tape)) (now (a .out)) (sym (g .found .passes ∙ asked m)) (f .part .ensures)
-    (ap (λ (p : Params). run (closed (arithmetic q) (parted p (now (a .shares)))) (now (a .tape)) start) (g .found .constants))
+    gadget-ran _ (now (a .shares)) (now (a .tape)) (now (a .out)) (sym (g .passes ∙ number (m .before))) (f .decompose-by .ensures)
+    (ap (λ (p : Params). run (closed (arithmetic q) (decompose p (now (a .shares)))) (now (a .tape)) start) (g .constants))
 
 pub decompose-spec : {M : Type 1} → statement M
 decompose-spec =
     tie.close
     (tie.spec
+    known-requires
+    first-failing-requires
     admit-requires
-    enum-known-number
-    refused-requires
-    beside-high-requires
+    enum-known-k
+    refused-parts-requires
     enum-known-p
-    part-requires
+    decompose-by-requires
     returns
     same-length
     returns-2)

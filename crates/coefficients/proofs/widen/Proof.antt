@@ -1,51 +1,70 @@
-use borrow.Author.Needs.{needs}
 use mathlib.Core.Path.{_≡_, sym, ap, _∙_}
+use mathlib.Core.Bool.{Bool, true}
 use lib.ListN.{length}
 use denote.Ref.{now}
 use Rattle.numbers.specs.Modulo.{q}
 use Rattle.numbers.specs.Tests.{both}
 use Rattle.params.specs.declared.Params.{Params}
 use Rattle.params.specs.Sets.{known, ofKind}
-use Rattle.params.proofs.SetLaws.{kind-reached}
+use Rattle.params.proofs.SetLaws.{kind-laws}
 use Rattle.tape.specs.Tape.{start}
 use Rattle.draws.specs.Draws.{bind, run}
+use Rattle.shares.specs.Sharing.{arithmetic}
 use Rattle.shares.specs.Refresh.{refresh}
 use Rattle.gate.specs.Checks.{inside, firstFailing, checks}
-use Rattle.gate.proofs.GadgetLaws.{silent-refused, silent-ran}
+use Rattle.gate.specs.Gadget.{closed}
+use Rattle.gate.proofs.CheckLaws.{both-left, Passed, all-passed}
+use Rattle.gate.proofs.AdmitLaws.{not-admitted, Good, good}
+use Rattle.gate.proofs.GadgetLaws.{silent-refused, silent-ran, gadget-refused, gadget-ran}
 use Rattle.widening.specs.Widening.{widened, widen}
-use Rattle.coefficients.specs.Coefficients.{widenGadget}
-use Rattle.coefficients.proofs.AdmitLaws.{number, refuses, Admits, admits}
-use Rattle.coefficients.proofs.widen.Reads as reads
-use Rattle.coefficients.proofs.widen.Lts as lts
+use Rattle.decompose.specs.Decompose.{decompose}
+use Rattle.coefficients.specs.Coefficients.{kindRange, widenGadget, decomposeGadget}
+use borrow.Author.Needs.{needs}
 use Rattle.coefficients.proofs.widen.Statement.{statement}
 use Rattle.coefficients.proofs.widen.Tie as tie
-use Rattle.coefficients.proofs.admit.Reads as admit-reads
+use Rattle.coefficients.proofs.widen.Reads as reads
+use Rattle.coefficients.proofs.widen.Lts as lts
+use Rattle.coefficients.proofs.kind_range.Reads as kind-range-reads
 use Rattle.coefficients.proofs.widen_by.Reads as widen-by-reads
-use Rattle.gate.proofs.inside.Reads as inside-reads
+use Rattle.gate.proofs.admit.Reads as admit-reads
+use Rattle.gate.proofs.first_failing.Reads as first-failing-reads
 use Rattle.gate.proofs.refused.Reads as refused-reads
 use Rattle.params.proofs.Params.of_kind.Reads as of-kind-reads
 
--- a kind is 1 or 2
-asked : (c : tie.After-admit) →
+-- the first check that failed, the parameters being in range or not
+number : (c : tie.After-first-failing) →
     let a = c .before .before .before .before .before .args in
-    number (now (a .shares)) (length (now (a .out))) (a .set) (c .before .inside .result) ≡ firstFailing (checks (now (a .shares)) (length (now (a .out))) (both (known (a .set)) (inside 1 2 (a .kind))) q)
-asked c = let a = c .before .before .before .before .before .args in ap (number (now (a .shares)) (length (now (a .out))) (a .set)) (c .before .inside .ensures)
+    c .first-failing .result ≡ firstFailing (checks (now (a .shares)) (length (now (a .out))) (kindRange (a .set) (a .kind)) q)
+number c =
+    let a = c .before .before .before .before .before .args in
+    c .first-failing .ensures ∙ ap (λ (b : Bool). firstFailing (checks (now (a .shares)) (length (now (a .out))) b q)) (c .before .kind-range .ensures)
 
--- no check failed
+-- what is known where none did
+passed : (c : tie.After-first-failing) → c .first-failing .result ≡ 0 →
+    let a = c .before .before .before .before .before .args in
+    Passed (now (a .shares)) (length (now (a .out))) (kindRange (a .set) (a .kind)) q
+passed c e = all-passed _ _ _ _ (sym (number c) ∙ e)
+
+set-known : (c : tie.After-first-failing) → c .first-failing .result ≡ 0 → known (c .before .before .before .before .before .args .set) ≡ true
+unfolding kindRange
+set-known c e = both-left _ _ (passed c e .range)
+
 admitted : (c : tie.After-p) →
     let m = c .before .before in
-    let a = m .before .before .before .before .before .args in
-    Admits (now (a .shares)) (length (now (a .out))) (a .set) (m .before .inside .result) (m .admit .result) (m .admit .ensures) (c .p .given .0 .0)
-admitted c = admits _ _ _ _ _ _ (c .p .given .1)
+    Good (m .before .first-failing .result) (m .before .before .before .before .before .before .args .set) (c .p .given .0 .0)
+admitted c = let m = c .before .before in good _ _ (set-known (m .before)) _ (m .admit .ensures) (c .p .given .1)
 
-inside-requires : tie.Need-inside-requires
-inside-requires c κs = search needs
+kind-range-requires : tie.Need-kind-range-requires
+kind-range-requires c κs = search needs
+
+first-failing-requires : tie.Need-first-failing-requires
+first-failing-requires c κs = search needs
 
 admit-requires : tie.Need-admit-requires
-admit-requires c κs = search needs
+admit-requires c κs = λ e. set-known c e
 
-enum-known-number : tie.Need-enum-known-number
-enum-known-number c = search needs
+enum-known-k : tie.Need-enum-known-k
+enum-known-k c = search needs
 
 refused-requires : tie.Need-refused-requires
 refused-requires c κs = search needs
@@ -57,15 +76,16 @@ of-kind-requires : tie.Need-of-kind-requires
 of-kind-requires c κs = search needs
 
 widen-by-requires : tie.Need-widen-by-requires
-widen-by-requires c κs = let g = admitted (c .before .before .before) in
-    (rw (c .before .of-kind .ensures) (kind-reached (g .found .laws) _), g .ready)
+widen-by-requires c κs = let p = c .before .before .before in
+    let g = admitted p in
+    (rw (c .before .of-kind .ensures) (kind-laws (g .laws) _), passed (p .before .before .before) (sym (g .passes)) .ready)
 
 returns : tie.Need-returns
 unfolding widenGadget
 returns c = let k = c .before .before in
     let m = k .before .before in
-    let (e, h) = refuses _ _ _ _ _ (m .admit .ensures) (k .number .given .1) in
-    silent-refused _ _ _ _ _ _ _ (e ∙ asked m) h (c .refused .ensures _)
+    let (e, h) = not-admitted _ _ (set-known (m .before)) _ (m .admit .ensures) (k .k .given .1) in
+    silent-refused _ _ _ _ _ _ _ (e ∙ number (m .before)) h (c .refused .ensures _)
 
 same-length : tie.Need-same-length
 same-length c = search needs
@@ -76,18 +96,19 @@ returns-2 c = let f = c .before .before in
     let o = f .before .before in
     let p = o .before .before in
     let m = p .before .before in
-    let a = m .before .before .before .before .before .args in
+    let a = m .before .before .before .before .before .before .args in
     let g = admitted p in
-    silent-ran _ _ _ _ _ _ _ (sym (g .found .passes ∙ asked m)) (f .widen-by .ensures)
-    (ap (λ k. run (bind (widen k (now (a .shares))) (refresh (widened k))) (now (a .tape)) start) (o .of-kind .ensures ∙ ap (λ (p : Params). ofKind p (a .kind)) (g .found .constants)))
+    silent-ran _ _ _ _ _ _ _ (sym (g .passes ∙ number (m .before))) (f .widen-by .ensures)
+    (ap (λ k. run (bind (widen k (now (a .shares))) (refresh (widened k))) (now (a .tape)) start) (o .of-kind .ensures ∙ ap (λ (p : Params). ofKind p (a .kind)) (g .constants)))
 
 pub widen-spec : {M : Type 1} → statement M
 widen-spec =
     tie.close
     (tie.spec
-    inside-requires
+    kind-range-requires
+    first-failing-requires
     admit-requires
-    enum-known-number
+    enum-known-k
     refused-requires
     enum-known-p
     of-kind-requires

@@ -7,10 +7,9 @@ use Rattle.draws.specs.Draws.{bind, run}
 use Rattle.shares.specs.Sharing.{arithmetic}
 use Rattle.shares.specs.Refresh.{refresh}
 use Rattle.gate.specs.Told.{silentRan, ranTold}
-use Rattle.gate.proofs.GadgetLaws.{closed-on-copy}
+use Rattle.gate.proofs.GadgetLaws.{closed-on-copy, held, held-given}
 use Rattle.widening.specs.Widening.{widen}
 use Rattle.widening.proofs.StepLaws.{wide-two}
-use Rattle.coefficients.proofs.AdmitLaws.{ready-held, ready-given}
 use Rattle.coefficients.proofs.widen_by.Reads as reads
 use Rattle.coefficients.proofs.widen_by.Lts as lts
 use Rattle.coefficients.proofs.widen_by.Statement.{statement}
@@ -29,7 +28,7 @@ start-requires : tie.Need-start-requires
 start-requires c κs = search needs
 
 widen-requires : tie.Need-widen-requires
-widen-requires c κs = let s = c .before .before .before .before .before in (s .pre .0, ready-held (s .pre .1) (omega arith) (c .before .copy-in .ensures))
+widen-requires c κs = let s = c .before .before .before .before .before in (s .pre .0, held (s .pre .1) (omega arith) (c .before .copy-in .ensures))
 
 wide-requires : tie.Need-wide-requires
 wide-requires c κs = c .before .before .before .before .before .before .pre .0
@@ -37,7 +36,7 @@ wide-requires c κs = c .before .before .before .before .before .before .pre .0
 close-requires : tie.Need-close-requires
 close-requires c κs = let w = c .before in
     let s = w .before .before .before .before .before .before in
-    rw (c .wide .ensures) (ready-given (s .pre .1) (wide-two (s .pre .0)) (w .widen .ensures))
+    rw (c .wide .ensures) (held-given (s .pre .1) (wide-two (s .pre .0)) (w .widen .ensures))
 
 finish-requires : tie.Need-finish-requires
 finish-requires c κs = let s = c .before .before .before .before .before .before .before .before .before .pre .1 in omega (arith, s .fits, s .most)

@@ -6,9 +6,11 @@ use denote.Ref.{now}
 use Rattle.numbers.specs.Modulo.{q}
 use Rattle.numbers.specs.Bits.{alpha}
 use Rattle.params.proofs.RoomLaws.{alpha-most, half-below, parts-room}
-use Rattle.draws.specs.Draws.{run}
+use Rattle.draws.specs.Draws.{next, run}
+use Rattle.shares.specs.Sharing.{arithmetic}
+use Rattle.shares.specs.Refresh.{refresh}
 use Rattle.shares.specs.Arrays.{Held}
-use Rattle.shares.proofs.ArraysLaws.{held-of, given-as}
+use Rattle.shares.proofs.ArraysLaws.{held-of, held-below, given-as}
 use Rattle.switching.specs.Switching.{carries}
 use Rattle.decompose.proofs.StepLaws.{offset-words, floors-room, count-room, high-shares-is}
 use Rattle.decompose.proofs.high_shares.Reads as reads
@@ -56,15 +58,24 @@ carries-by-q-requires c κs = let p = c .before in
     rw (p .power .ensures, a .alpha .ensures)
     (omega (arith, alpha-most _ (h .most)), l .parts-least, parts-room l _ (h .most), count-room l _, floors-room _ _, offset a)
 
+close-requires : tie.Need-close-requires
+close-requires c κs t =
+    let s = c .before .before .before .before .before .before in
+    held-below (s .pre .1) (s .pre .0 .parts-least) (c .carries-by-q .ensures .below t)
+
 returns : tie.Need-returns
-returns c = let p = c .before .before in
+returns c =
+    let k = c .before in
+    let p = k .before .before in
     let a = p .before in
     let x = a .before in
     let s = x .before .before in
     let t = 23 + a .alpha .result in
-    given-as (c .carries-by-q .ensures)
-    (ap₂ (λ f ys. run (carries (s .args .p .delta) t (s .args .p .delta * f) q (take (s .args .n) ys)) (now (s .args .tape)) (s .args .cursor)) (p .power .ensures) (x .add-to-first .ensures)
-    ∙ ap (λ d. run d (now (s .args .tape)) (s .args .cursor)) (high-shares-is (s .args .p) (s .args .shares) (omega (arith, s .pre .1 .least)) (fit a) (ap (λ j. 23 + j) (a .alpha .ensures))))
+    given-as (c .close .ensures)
+    (ap (λ y. next y (λ xs d. run (refresh (arithmetic (s .args .p .delta)) xs) (now (s .args .tape)) d))
+    (k .carries-by-q .ensures .is
+    ∙ ap₂ (λ f ys. run (carries (s .args .p .delta) t (s .args .p .delta * f) q (take (s .args .n) ys)) (now (s .args .tape)) (s .args .cursor)) (p .power .ensures) (x .add-to-first .ensures))
+    ∙ high-shares-is (s .args .p) (s .args .shares) (now (s .args .tape)) (s .args .cursor) (omega (arith, s .pre .1 .least)) (fit a) (ap (λ j. 23 + j) (a .alpha .ensures)))
 
 pub high-shares-spec : {M : Type 1} → statement M
 high-shares-spec =
@@ -76,4 +87,5 @@ high-shares-spec =
     power-requires
     mul-carries-by-q
     carries-by-q-requires
+    close-requires
     returns)

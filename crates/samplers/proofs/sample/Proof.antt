@@ -1,34 +1,66 @@
 use borrow.Author.Needs.{needs}
-use mathlib.Core.Path.{ap, ap₂, _∙_}
-use Prim.Native.Nat.{ℕ}
+use mathlib.Core.Path.{_≡_, sym, ap, ap₂, _∙_}
+use mathlib.Core.Bool.{Bool}
+use mathlib.Core.List.{[]}
+use Prim.Native.Nat.{ℕ, _*_}
 use native.Mathlib.Nat.{one-mul}
 use native.Mathlib.Omega.{arith}
 use lib.ListN.{length}
 use denote.Ref.{now}
 use Rattle.params.specs.declared.Params.{Params}
+use Rattle.params.specs.Sets.{known}
 use Rattle.tape.specs.declared.Cursor.{Cursor}
 use Rattle.tape.specs.Tape.{start}
 use Rattle.draws.specs.Draws.{run}
 use Rattle.shares.specs.Arrays.{shared}
+use Rattle.gate.specs.Checks.{firstFailing, checksOf}
+use Rattle.gate.proofs.CheckLaws.{AllPassed, all-checked}
+use Rattle.gate.proofs.AdmitLaws.{not-admitted, Good, good}
 use Rattle.gate.proofs.GadgetLaws.{sampler-refused, sampler-ran}
 use Rattle.sample.specs.Sampling.{coefficient}
 use Rattle.samplers.specs.Samplers.{sampler}
-use Rattle.samplers.proofs.AdmitLaws.{sampler-refuses, Admits, sampler-admits}
+use Rattle.samplers.proofs.sample.Reads as reads
+use Rattle.samplers.proofs.sample.Lts as lts
 use Rattle.samplers.proofs.sample.Statement.{statement}
 use Rattle.samplers.proofs.sample.Tie as tie
+use Rattle.gate.proofs.admit.Reads as admit-reads
+use Rattle.gate.proofs.finish.Reads as finish-reads
+use Rattle.gate.proofs.first_of_three.Reads as first-of-three-reads
+use Rattle.gate.proofs.refused.Reads as refused-reads
+use Rattle.params.proofs.Params.known.Reads as known-reads
+use Rattle.sample.proofs.coefficient.Reads as coefficient-reads
+use Rattle.tape.proofs.Cursor.start.Reads as start-reads
 
--- no check failed
+-- the first check that failed, the set being known or not
+number : (c : tie.After-first-of-three) →
+    let a = c .before .before .before .before .args in
+    c .first-of-three .result ≡ firstFailing (checksOf (a .n) (length (now (a .out))) (1 * a .n) (known (a .set)) [])
+number c =
+    let a = c .before .before .before .before .args in
+    c .first-of-three .ensures ∙ ap (λ (b : Bool). firstFailing (checksOf (a .n) (length (now (a .out))) (1 * a .n) b [])) (c .before .known .ensures)
+
+-- what is known where none did
+passed : (c : tie.After-first-of-three) → c .first-of-three .result ≡ 0 →
+    let a = c .before .before .before .before .args in
+    AllPassed (a .n) (length (now (a .out))) (1 * a .n) (known (a .set)) []
+passed c e = all-checked _ _ _ _ _ (sym (number c) ∙ e)
+
 admitted : (c : tie.After-p) →
     let m = c .before .before in
-    let a = m .before .before .before .args in
-    Admits (a .n) 1 (length (now (a .out))) (a .set) (m .admit .result) (m .admit .ensures) (c .p .given .0 .0)
-admitted c = sampler-admits _ _ _ _ _ _ (c .p .given .1)
+    Good (m .before .first-of-three .result) (m .before .before .before .before .before .args .set) (c .p .given .0 .0)
+admitted c = let m = c .before .before in good _ _ (λ e. passed (m .before) e .range) _ (m .admit .ensures) (c .p .given .1)
+
+known-requires : tie.Need-known-requires
+known-requires c κs = search needs
+
+first-of-three-requires : tie.Need-first-of-three-requires
+first-of-three-requires c κs = search needs
 
 admit-requires : tie.Need-admit-requires
-admit-requires c κs = search needs
+admit-requires c κs = λ e. passed c e .range
 
-enum-known-number : tie.Need-enum-known-number
-enum-known-number c = search needs
+enum-known-k : tie.Need-enum-known-k
+enum-known-k c = search needs
 
 refused-requires : tie.Need-refused-requires
 refused-requires c κs = search needs
@@ -40,41 +72,47 @@ start-requires : tie.Need-start-requires
 start-requires c κs = search needs
 
 coefficient-requires : tie.Need-coefficient-requires
-coefficient-requires c κs = let g = admitted (c .before .before) in (g .found .laws, g .checked .least, g .checked .most)
+coefficient-requires c κs = let p = c .before .before in
+    let g = admitted p in
+    let h = passed (p .before .before .before) (sym (g .passes)) in
+    (g .laws, h .least, h .most)
 
 finish-requires : tie.Need-finish-requires
-finish-requires c κs = let g = admitted (c .before .before .before .before) in omega (arith, g .checked .fits, g .checked .most)
+finish-requires c κs = let p = c .before .before .before .before in
+    let h = passed (p .before .before .before) (sym (admitted p .passes)) in
+    omega (arith, h .fits, h .most)
 
 returns : tie.Need-returns
 unfolding sampler
-returns c =
-    let k = c .before .before in
+returns c = let k = c .before .before in
     let m = k .before .before in
-    let (e, h) = sampler-refuses _ _ _ _ _ (m .admit .ensures) (k .number .given .1) in
-    sampler-refused _ _ _ _ e h (c .refused .ensures _)
+    let (e, h) = not-admitted _ _ (λ e. passed (m .before) e .range) _ (m .admit .ensures) (k .k .given .1) in
+    sampler-refused _ _ _ _ (e ∙ number (m .before)) h (c .refused .ensures _)
 
 same-length : tie.Need-same-length
 same-length c = search needs
 
 returns-2 : tie.Need-returns-2
 unfolding sampler
-returns-2 c =
-    let f = c .before .before in
+returns-2 c = let f = c .before .before in
     let k = f .before .before in
     let p = k .before .before .before in
-    let a = p .before .before .before .before .before .args in
+    let m = p .before .before in
+    let a = m .before .before .before .before .before .args in
     let g = admitted p in
-    sampler-ran _ _ _ _ (g .found .passes) (f .finish .ensures)
-    (ap (λ (m : ℕ). shared m (k .coefficient .result)) (g .checked .fits ∙ one-mul (a .n))
+    sampler-ran _ _ _ _ (g .passes ∙ number (m .before)) (f .finish .ensures)
+    (ap (λ (j : ℕ). shared j (k .coefficient .result)) (passed (m .before) (sym (g .passes)) .fits ∙ one-mul (a .n))
     ∙ k .coefficient .ensures .is
-    ∙ ap₂ (λ (q : Params) (d : Cursor). run (coefficient q (a .n)) (now (a .tape)) d) (g .found .constants) (k .before .start .ensures))
+    ∙ ap₂ (λ (q : Params) (d : Cursor). run (coefficient q (a .n)) (now (a .tape)) d) (g .constants) (k .before .start .ensures))
 
 pub sample-spec : {M : Type 1} → statement M
 sample-spec =
     tie.close
     (tie.spec
+    known-requires
+    first-of-three-requires
     admit-requires
-    enum-known-number
+    enum-known-k
     refused-requires
     enum-known-p
     start-requires

@@ -26,7 +26,7 @@ use Rattle.shares.proofs.add_to_first.Reads as add-to-first-reads
 use Rattle.shares.proofs.take_from_first.Reads as take-from-first-reads
 use Rattle.switching.proofs.carries_by_q.Reads as carries-by-q-reads
 use Rattle.widening.proofs.wide.Reads as wide-reads
-use Rattle.widening.proofs.without_wraps.Reads as without-wraps-reads
+use Rattle.widening.proofs.without_carries.Reads as without-carries-reads
 use Rattle.words.proofs.alpha.Reads as alpha-reads
 use Rattle.words.proofs.power.Reads as power-reads
 
@@ -60,7 +60,7 @@ result c =
     let x = y .before .before .before .before in
     let k = x .before .before .args .k in
     c .take-from-first .ensures
-    ∙ ap (takeFromFirst (arithmetic (w .wide .result)) (k .b)) (c .before .without-wraps .ensures)
+    ∙ ap (takeFromFirst (arithmetic (w .wide .result)) (k .b)) (c .before .without-carries .ensures)
     ∙ ap₂ (λ m ys. takeFromFirst (arithmetic m) (k .b) (without m q (y .carries-by-q .result .words) ys)) (w .wide .ensures) (x .add-to-first .ensures)
 
 few : (c : tie.After-alpha) → c .alpha .result ≤ 3
@@ -99,8 +99,8 @@ returns c = let y = c .before .before .before in
 wide-requires : tie.Need-wide-requires
 wide-requires c κs = c .before .before .before .before .before .before .before .before .before .before .pre .0
 
-without-wraps-requires : tie.Need-without-wraps-requires
-without-wraps-requires c κs = let e = c .before .before .before in
+without-carries-requires : tie.Need-without-carries-requires
+without-carries-requires c κs = let e = c .before .before .before in
     let y = e .before .before in
     let w = y .before .before in
     let a = w .before in
@@ -111,7 +111,7 @@ take-from-first-requires : tie.Need-take-from-first-requires
 take-from-first-requires c κs = let e = c .before .before .before .before in
     let a = e .before .before .before .before .before in
     let r = a .before .before .before .pre .0 in
-    rw (c .without-wraps .ensures, c .before .wide .ensures) (reach-wide r, without-words _ q _ (omega (arith, reach-wide r)) (offset a .all))
+    rw (c .without-carries .ensures, c .before .wide .ensures) (reach-wide r, without-words _ q _ (omega (arith, reach-wide r)) (offset a .all))
 
 returns-2 : tie.Need-returns-2
 returns-2 c = let v = c .before in
@@ -137,6 +137,6 @@ widen-spec =
     ended-requires
     returns
     wide-requires
-    without-wraps-requires
+    without-carries-requires
     take-from-first-requires
     returns-2)

@@ -44,7 +44,7 @@ unfolding toArithmeticGadget
 returns c = silent-refused _ _ _ _ _ _ _ (number (c .before .before)) (c .before .if1 .taken) (c .refused .ensures _)
 
 copy-in-requires : tie.Need-copy-in-requires
-copy-in-requires c κs = good c .first .most
+copy-in-requires c κs = good c .ready .most
 
 start-requires : tie.Need-start-requires
 start-requires c κs = search needs
@@ -52,19 +52,19 @@ start-requires c κs = search needs
 to-arithmetic-requires : tie.Need-to-arithmetic-requires
 to-arithmetic-requires c κs =
     let p = good (c .before .before) in
-    let (low, high) = inside-out 1 31 _ (p .first .range) in
-    (high, held p (pow-mono {i = 1} low) (c .before .copy-in .ensures))
+    let (low, high) = inside-out 1 31 _ (p .range) in
+    (high, held (p .ready) (pow-mono {i = 1} low) (c .before .copy-in .ensures))
 
 power-requires : tie.Need-power-requires
-power-requires c κs = inside-out 1 31 _ (good (c .before .before .before) .first .range) .1
+power-requires c κs = inside-out 1 31 _ (good (c .before .before .before) .range) .1
 
 close-requires : tie.Need-close-requires
 close-requires c κs =
     let p = good (c .before .before .before .before) in
-    rw (c .power .ensures) (held-given p (pow-mono {i = 1} (inside-out 1 31 _ (p .first .range) .0)) (c .before .to-arithmetic .ensures))
+    rw (c .power .ensures) (held-given (p .ready) (pow-mono {i = 1} (inside-out 1 31 _ (p .range) .0)) (c .before .to-arithmetic .ensures))
 
 finish-requires : tie.Need-finish-requires
-finish-requires c κs = let p = good (c .before .before .before .before .before .before) in omega (arith, p .first .fits, p .first .most)
+finish-requires c κs = let p = good (c .before .before .before .before .before .before) in omega (arith, p .ready .fits, p .ready .most)
 
 same-length : tie.Need-same-length
 same-length c = search needs
@@ -79,7 +79,7 @@ returns-2 c =
     let b = r .before .before .before in
     let a = b .before .before .before .before .before .before .before .args in
     silent-ran _ (boolean _) (arithmetic _) _ _ _ _ (sym (number (b .before)) ∙ b .if1 .left) (f .finish .ensures)
-    (closed-on-copy (toArithmetic _) (arithmetic _) _ (r .before .before .copy-in .ensures) (good b .first .fits) (r .before .start .ensures) (r .to-arithmetic .ensures) (l .close .ensures)
+    (closed-on-copy (toArithmetic _) (arithmetic _) _ (r .before .before .copy-in .ensures) (good b .ready .fits) (r .before .start .ensures) (r .to-arithmetic .ensures) (l .close .ensures)
     ∙ ap (λ m. run (bind (toArithmetic (a .k) (now (a .shares))) (refresh (arithmetic m))) (now (a .tape)) start) (w .power .ensures))
 
 pub to-arithmetic-spec : {M : Type 1} → statement M

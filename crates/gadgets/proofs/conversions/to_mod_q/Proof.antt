@@ -42,7 +42,7 @@ unfolding toModQGadget
 returns c = silent-refused _ _ _ _ _ _ _ (number (c .before .before)) (c .before .if1 .taken) (c .refused .ensures _)
 
 copy-in-requires : tie.Need-copy-in-requires
-copy-in-requires c κs = good c .first .most
+copy-in-requires c κs = good c .ready .most
 
 start-requires : tie.Need-start-requires
 start-requires c κs = search needs
@@ -50,14 +50,14 @@ start-requires c κs = search needs
 to-modulus-requires : tie.Need-to-modulus-requires
 to-modulus-requires c κs =
     let p = good (c .before .before) in
-    let (low, high) = inside-out 1 20 _ (p .first .range) in
-    (omega (arith, alpha-most _ (p .first .most)), omega arith, q-room _ (p .first .most), held p (pow-mono {i = 1} low) (c .before .copy-in .ensures))
+    let (low, high) = inside-out 1 20 _ (p .range) in
+    (omega (arith, alpha-most _ (p .ready .most)), omega arith, q-room _ (p .ready .most), held (p .ready) (pow-mono {i = 1} low) (c .before .copy-in .ensures))
 
 close-requires : tie.Need-close-requires
-close-requires c κs = held-given (good (c .before .before .before)) (omega arith) (c .to-modulus .ensures)
+close-requires c κs = held-given (good (c .before .before .before) .ready) (omega arith) (c .to-modulus .ensures)
 
 finish-requires : tie.Need-finish-requires
-finish-requires c κs = let p = good (c .before .before .before .before .before) in omega (arith, p .first .fits, p .first .most)
+finish-requires c κs = let p = good (c .before .before .before .before .before) in omega (arith, p .ready .fits, p .ready .most)
 
 same-length : tie.Need-same-length
 same-length c = search needs
@@ -70,7 +70,7 @@ returns-2 c =
     let r = l .before in
     let b = r .before .before .before in
     silent-ran _ (boolean _) (arithmetic _) _ _ _ _ (sym (number (b .before)) ∙ b .if1 .left) (f .finish .ensures)
-    (closed-on-copy (toModulus _ _) (arithmetic _) _ (r .before .before .copy-in .ensures) (good b .first .fits) (r .before .start .ensures) (r .to-modulus .ensures) (l .close .ensures))
+    (closed-on-copy (toModulus _ _) (arithmetic _) _ (r .before .before .copy-in .ensures) (good b .ready .fits) (r .before .start .ensures) (r .to-modulus .ensures) (l .close .ensures))
 
 pub to-mod-q-spec : {M : Type 1} → statement M
 to-mod-q-spec =

@@ -37,7 +37,7 @@ unfolding refreshGadget
 returns c = silent-refused _ _ _ done _ _ _ (number (c .before .before)) (c .before .if1 .taken) (c .refused .ensures _)
 
 copy-in-requires : tie.Need-copy-in-requires
-copy-in-requires c κs = good c .first .most
+copy-in-requires c κs = good c .ready .most
 
 start-requires : tie.Need-start-requires
 start-requires c κs = search needs
@@ -45,10 +45,10 @@ start-requires c κs = search needs
 refresh-requires : tie.Need-refresh-requires
 refresh-requires c κs =
     let p = good (c .before .before) in
-    held p (inside-out 2 4294967295 _ (p .first .range) .0) (c .before .copy-in .ensures)
+    held (p .ready) (inside-out 2 4294967295 _ (p .range) .0) (c .before .copy-in .ensures)
 
 finish-requires : tie.Need-finish-requires
-finish-requires c κs = let p = good (c .before .before .before .before) in omega (arith, p .first .fits, p .first .most)
+finish-requires c κs = let p = good (c .before .before .before .before) in omega (arith, p .ready .fits, p .ready .most)
 
 same-length : tie.Need-same-length
 same-length c = search needs
@@ -60,7 +60,7 @@ returns-2 c =
     let r = f .before .before in
     let p = good (r .before .before .before) in
     silent-ran _ _ _ done _ _ _ (sym (number (r .before .before .before .before)) ∙ r .before .before .before .if1 .left) (f .finish .ensures)
-    (on-copy (refresh (arithmetic _)) _ (r .before .before .copy-in .ensures) (p .first .fits) (r .before .start .ensures) (r .refresh .ensures))
+    (on-copy (refresh (arithmetic _)) _ (r .before .before .copy-in .ensures) (p .ready .fits) (r .before .start .ensures) (r .refresh .ensures))
 
 pub refresh-spec : {M : Type 1} → statement M
 refresh-spec =

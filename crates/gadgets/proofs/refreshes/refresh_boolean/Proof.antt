@@ -45,7 +45,7 @@ unfolding booleanGadget
 returns c = silent-refused _ (boolean _) _ done _ _ _ (number (c .before .before)) (c .before .if1 .taken) (c .refused .ensures _)
 
 copy-in-requires : tie.Need-copy-in-requires
-copy-in-requires c κs = good c .first .most
+copy-in-requires c κs = good c .ready .most
 
 start-requires : tie.Need-start-requires
 start-requires c κs = search needs
@@ -53,11 +53,11 @@ start-requires c κs = search needs
 refresh-boolean-requires : tie.Need-refresh-boolean-requires
 refresh-boolean-requires c κs =
     let p = good (c .before .before) in
-    let (low, high) = inside-out 1 31 _ (p .first .range) in
-    (high, held p (two _ low) (c .before .copy-in .ensures))
+    let (low, high) = inside-out 1 31 _ (p .range) in
+    (high, held (p .ready) (two _ low) (c .before .copy-in .ensures))
 
 finish-requires : tie.Need-finish-requires
-finish-requires c κs = let p = good (c .before .before .before .before) in omega (arith, p .first .fits, p .first .most)
+finish-requires c κs = let p = good (c .before .before .before .before) in omega (arith, p .ready .fits, p .ready .most)
 
 same-length : tie.Need-same-length
 same-length c = search needs
@@ -69,7 +69,7 @@ returns-2 c =
     let r = f .before .before in
     let p = good (r .before .before .before) in
     silent-ran _ (boolean _) _ done _ _ _ (sym (number (r .before .before .before .before)) ∙ r .before .before .before .if1 .left) (f .finish .ensures)
-    (on-copy (refresh (boolean _)) _ (r .before .before .copy-in .ensures) (p .first .fits) (r .before .start .ensures) (r .refresh-boolean .ensures))
+    (on-copy (refresh (boolean _)) _ (r .before .before .copy-in .ensures) (p .ready .fits) (r .before .start .ensures) (r .refresh-boolean .ensures))
 
 pub refresh-boolean-spec : {M : Type 1} → statement M
 refresh-boolean-spec =

@@ -38,10 +38,10 @@ unfolding shiftGadget
 returns c = silent-refused _ _ _ _ _ _ _ (number (c .before .before)) (c .before .if1 .taken) (c .refused .ensures _)
 
 quotient-requires : tie.Need-quotient-requires
-quotient-requires c κs = shift-range-out _ _ (good c .first .range) .1 .1
+quotient-requires c κs = shift-range-out _ _ (good c .range) .1 .1
 
 copy-in-requires : tie.Need-copy-in-requires
-copy-in-requires c κs = good (c .before) .first .most
+copy-in-requires c κs = good (c .before) .ready .most
 
 start-requires : tie.Need-start-requires
 start-requires c κs = search needs
@@ -49,17 +49,17 @@ start-requires c κs = search needs
 shift-by-requires : tie.Need-shift-by-requires
 shift-by-requires c κs = let b = c .before .before in
     let p = good (b .before) in
-    let (m, (low, high), d, two) = shift-range-out _ _ (p .first .range) in
+    let (m, (low, high), d, two) = shift-range-out _ _ (p .range) in
     let e = whole-power _ _ d in
-    rw (b .quotient .ensures) (high, two, rw (← e) (omega arith), rw (← e) (held p (whole-least _ _ d two) (c .before .copy-in .ensures)))
+    rw (b .quotient .ensures) (high, two, rw (← e) (omega arith), rw (← e) (held (p .ready) (whole-least _ _ d two) (c .before .copy-in .ensures)))
 
 close-requires : tie.Need-close-requires
 close-requires c κs = let b = c .before .before .before in
     let p = good (b .before) in
-    held-given p (subst (λ (m : ℕ). 2 ≤ m) (sym (b .quotient .ensures)) (shift-range-out _ _ (p .first .range) .3)) (c .shift-by .ensures)
+    held-given (p .ready) (subst (λ (m : ℕ). 2 ≤ m) (sym (b .quotient .ensures)) (shift-range-out _ _ (p .range) .3)) (c .shift-by .ensures)
 
 finish-requires : tie.Need-finish-requires
-finish-requires c κs = let p = good (c .before .before .before .before .before .before) in omega (arith, p .first .fits, p .first .most)
+finish-requires c κs = let p = good (c .before .before .before .before .before .before) in omega (arith, p .ready .fits, p .ready .most)
 
 same-length : tie.Need-same-length
 same-length c = search needs
@@ -73,7 +73,7 @@ returns-2 c = let f = c .before .before in
     let p = good (b .before) in
     rw (← b .quotient .ensures)
     (silent-ran _ _ _ _ _ _ _ (sym (number (b .before .before)) ∙ b .before .if1 .left) (f .finish .ensures)
-    (closed-on-copy (shift _ _) (arithmetic _) _ (r .before .before .copy-in .ensures) (p .first .fits) (r .before .start .ensures) (r .shift-by .ensures) (l .close .ensures)))
+    (closed-on-copy (shift _ _) (arithmetic _) _ (r .before .before .copy-in .ensures) (p .ready .fits) (r .before .start .ensures) (r .shift-by .ensures) (l .close .ensures)))
 
 pub shift-spec : {M : Type 1} → statement M
 shift-spec =

@@ -41,23 +41,23 @@ unfolding toBooleanGadget
 returns c = silent-refused _ _ _ _ _ _ _ (number (c .before .before)) (c .before .if1 .taken) (c .refused .ensures _)
 
 copy-in-requires : tie.Need-copy-in-requires
-copy-in-requires c κs = good c .first .most
+copy-in-requires c κs = good c .ready .most
 
 start-requires : tie.Need-start-requires
 start-requires c κs = search needs
 
 to-boolean-requires : tie.Need-to-boolean-requires
 to-boolean-requires c κs = let p = good (c .before .before) in
-    let (low, high) = inside-out 1 31 _ (p .first .range) in
-    (low, high, held p (pow-mono {i = 1} low) (c .before .copy-in .ensures))
+    let (low, high) = inside-out 1 31 _ (p .range) in
+    (low, high, held (p .ready) (pow-mono {i = 1} low) (c .before .copy-in .ensures))
 
 close-boolean-requires : tie.Need-close-boolean-requires
 close-boolean-requires c κs = let p = good (c .before .before .before) in
-    let (low, high) = inside-out 1 31 _ (p .first .range) in
-    (high, held-given p (pow-mono {i = 1} low) (c .to-boolean .ensures))
+    let (low, high) = inside-out 1 31 _ (p .range) in
+    (high, held-given (p .ready) (pow-mono {i = 1} low) (c .to-boolean .ensures))
 
 finish-requires : tie.Need-finish-requires
-finish-requires c κs = let p = good (c .before .before .before .before .before) in omega (arith, p .first .fits, p .first .most)
+finish-requires c κs = let p = good (c .before .before .before .before .before) in omega (arith, p .ready .fits, p .ready .most)
 
 same-length : tie.Need-same-length
 same-length c = search needs
@@ -69,7 +69,7 @@ returns-2 c = let f = c .before .before in
     let r = l .before in
     let b = r .before .before .before in
     silent-ran _ (arithmetic _) (boolean _) _ _ _ _ (sym (number (b .before)) ∙ b .if1 .left) (f .finish .ensures)
-    (closed-on-copy (toBoolean _) (boolean _) _ (r .before .before .copy-in .ensures) (good b .first .fits) (r .before .start .ensures) (r .to-boolean .ensures) (l .close-boolean .ensures))
+    (closed-on-copy (toBoolean _) (boolean _) _ (r .before .before .copy-in .ensures) (good b .ready .fits) (r .before .start .ensures) (r .to-boolean .ensures) (l .close-boolean .ensures))
 
 pub to-boolean-spec : {M : Type 1} → statement M
 to-boolean-spec =
