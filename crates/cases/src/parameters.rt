@@ -1,7 +1,6 @@
 // The parameters that a round calls with.
 use super::sets::set;
 use super::sets::set_and_kind;
-use params::Params;
 use words::power;
 
 // A gadget's parameters; the second is 0 where it has but one.
@@ -88,7 +87,7 @@ pub fn parameters(gadget: u32, r: u32, x: u32) -> Pair {
 pub fn bound(gadget: u32, a: u32) -> u32 {
     match gadget {
         1 | 3 => a,
-        9 | 10 => Params::Q,
+        9 | 10 => 8380417,
         _ => power(a % 32),
     }
 }

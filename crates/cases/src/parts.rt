@@ -3,7 +3,6 @@ use super::inputs::complete;
 use super::inputs::reduce;
 use super::tally::low;
 use gadgets::decompose;
-use params::Params;
 use trials::fill;
 use trials::mix;
 use trials::recombined;
@@ -21,8 +20,8 @@ fn shared(residue: u32, shares: &mut [u32], out: &mut [u32]) -> Parts {
     let mut tape = [0u32; 4096];
     let x = fill(&mut tape, mix(mix(10, low(shares.len())), residue));
     fill(shares, x);
-    reduce(shares, Params::Q);
-    complete(10, shares, residue, Params::Q);
+    reduce(shares, 8380417);
+    complete(10, shares, residue, 8380417);
     let told = decompose(shares, &tape, 44, out);
     Parts {
         number: told.number,
@@ -35,6 +34,6 @@ pub fn decomposed(residue: u32, n: usize) -> Parts
     requires { ⌜ n ≤ 8 ⌝ }
 {
     let mut shares = [0u32; 8];
-    let mut out = [0u32; 8];
+    let mut out = [7u32; 8];
     shared(residue, &mut shares[..n], &mut out[..n])
 }

@@ -1,4 +1,4 @@
--- What the answer with a high part stands for.
+-- What the caller's answer of Decompose, `Decomposed`, stands for.
 use mathlib.Core.List.{List, [], _∷_}
 use Prim.Native.Nat.{ℕ}
 use Rattle.gate.specs.Told.{Told}

@@ -1,5 +1,5 @@
--- What Decompose opens is FIPS 204's high part, and the low shares recombine to its low part: of every residue, over any n whose shares leave room and
--- any set that has its laws, whatever the draws.
+-- What Decompose opens is FIPS 204's high part, and the low shares recombine to its low part: of every residue, over any n and any set that has its
+-- laws, whatever the draws.
 use mathlib.Core.Path.{_≡_, sym, ap, subst, _∙_}
 use mathlib.Core.List.{List, [], _∷_}
 use Prim.Native.Nat.{ℕ, suc, _+_, _-_, _*_, _/_, _%_, _^_, _≤_, _<_}

@@ -1,4 +1,4 @@
--- What the answer with the high part stands for.
+-- What the answer of the opening, `High`, stands for.
 use Prim.Native.Nat.{ℕ}
 use Rattle.tape.specs.Tape.{Ran, ended, ran}
 use Rattle.decompose.specs.declared.High.{High}

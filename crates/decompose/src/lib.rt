@@ -26,7 +26,7 @@ pub enum High {
     Ended,
 }
 
-// Shares of the high part modulo delta, fresh enough to be opened. Gamma2 goes onto a copy: the low part is taken from the input.
+// Shares of the high part modulo delta, refreshed, so that they may be opened. Gamma2 goes onto a copy: the low part is taken from the input.
 fn high_shares(
     shares: [u32; Params::MOST],
     n: usize,

@@ -1,6 +1,6 @@
 -- Decompose meets the three demands, its answers are unique, and how many draws it makes.
-use mathlib.Core.Path.{_≡_, refl, ap, _∙_}
-use mathlib.Core.List.{List, [], _∷_}
+use mathlib.Core.Path.{_≡_, refl, _∙_}
+use mathlib.Core.List.{List}
 use Prim.Native.Nat.{ℕ, _+_, _-_, _*_, _%_}
 use native.Mathlib.Omega.{arith}
 use lib.ListN.{length, getD, length-append, length-replicate}
@@ -18,7 +18,7 @@ use Rattle.shares.specs.Refresh.{refreshPlan}
 use Rattle.shift.specs.Shift.{shiftPlan}
 use Rattle.shift.proofs.FloorLaws.{shift-draws}
 use Rattle.gate.specs.Gadget.{tells}
-use Rattle.decompose.specs.Decompose.{highPlan, lowShares, decompose}
+use Rattle.decompose.specs.Decompose.{highPlan}
 use Rattle.decompose.proofs.ValueLaws.{decompose-gives}
 use Rattle.coefficients.specs.Coefficients.{decomposeGadget}
 use Rattle.coefficients.specs.Answers.{partsStandFor}

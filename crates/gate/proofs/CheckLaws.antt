@@ -1,5 +1,5 @@
--- Laws of the checks: what the code's tests say of them, and what a check that all-passed says.
-use mathlib.Core.Path.{_≡_, refl, sym, ap, subst, _∙_}
+-- Laws of the checks: what the code's tests say of them, and what is known where all checks passed.
+use mathlib.Core.Path.{_≡_, refl, ap, subst, _∙_}
 use mathlib.Core.List.{List, [], _∷_}
 use mathlib.Core.Bool.{Bool, true, false}
 use Prim.Native.Nat.{ℕ, zero, suc, _+_, _*_, _%_, _^_, _≤_, _<_}
@@ -21,10 +21,6 @@ both-left false b e = e
 pub both-right : (a b : Bool) → both a b ≡ true → b ≡ true
 both-right true b e = e
 both-right false b e = cc
-
-pub both-true : (a : Bool) → both a true ≡ a
-both-true true = refl
-both-true false = refl
 
 -- ---- a number from low to high
 module _ (low high x : ℕ) where
@@ -137,18 +133,6 @@ module _ (n room words : ℕ) (inRange : Bool) (more : List (ℕ × Bool)) where
       go true true false = h
       go true false c = omega arith
       go false b c = omega arith
-
--- parameters out of range: some check fails
-pub fails-out : (n room words : ℕ) (more : List (ℕ × Bool)) {k : ℕ} → k ≡ firstFailing (checksOf n room words false more) → ¬ (k ≡ 0)
-fails-out n room words more e z =
-    let f : false ≡ true = all-checked n room words false more (sym e ∙ z) .range in
-    let w : _≡_ {A = ℕ} 0 1 = cc in
-    omega arith
-
--- so of the checks on shares
-pub failing-out : (shares : List ℕ) (room M : ℕ) {k : ℕ} → k ≡ firstFailing (checks shares room false M) → ¬ (k ≡ 0)
-unfolding checks
-failing-out shares room M e = fails-out (length shares) room (length shares) ((4, allBelow M shares) ∷ []) e
 
 -- one coefficient takes n words
 pub of-one : (n room : ℕ) (inRange : Bool) (more : List (ℕ × Bool)) {k : ℕ} → k ≡ firstFailing (checksOf n room (1 * n) inRange more) → k ≡ firstFailing (checksOf n room n inRange more)

@@ -87,6 +87,6 @@ pub fn tried(t: Tally, set: u32, n: usize, residue: u32, tape: &mut [u32]) -> Ta
     requires { ⌜ (n ≤ 8) × (residue < 8380417) ⌝ }
 {
     let mut shares = [0u32; 8];
-    let mut low = [0u32; 8];
+    let mut low = [7u32; 8];
     on_room(t, set, residue, tape, &mut shares[..n], &mut low[..n])
 }

@@ -9,7 +9,6 @@ use Rattle.tape.specs.declared.Cursor.{Cursor}
 use Rattle.tape.specs.Tape.{ended, ran}
 use Rattle.draws.specs.Draws.{Draws, done, bind, run}
 use Rattle.draws.proofs.RunLaws.{run-done, bind-ran, bind-ended, part-ran, part-ended}
-use Rattle.shift.specs.Shift.{shift}
 use Rattle.convert.specs.ToArithmetic.{toArithmetic}
 use Rattle.switching.specs.Switching.{carries, without}
 use Rattle.switching.specs.ToModulus.{toModulus}

@@ -1,4 +1,4 @@
-// What both programs use: pseudo-random words, the checksum, and of the page's numbers q and γ2. These are written out, so that what is
+// What both programs use: pseudo-random words, the checksum, the sum of shares modulo q, and γ2 of a set. q and γ2 are written out, so that what is
 // tried and what is held right do not hang on the constants that the gadgets go by.
 ghost use Prim.Native.Nat.{_<_, _≤_};
 

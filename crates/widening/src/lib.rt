@@ -10,7 +10,7 @@ use words::alpha;
 use words::power;
 use words::sub_mod;
 ghost use mathlib.Core.Path.{_≡_};
-ghost use Prim.Native.Nat.{_*_, _≤_, _<_};
+ghost use Prim.Native.Nat.{_*_, _≤_};
 ghost use lib.ListN.{take};
 ghost use Rattle.numbers.specs.Modulo.{q};
 ghost use Rattle.numbers.specs.Lists.{Words};

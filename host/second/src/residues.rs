@@ -17,8 +17,8 @@ fn some(number: u32, set: Set, n: u32) -> Vec<u64> {
     around.chain(words_after(mix(number, n)).take(10000).map(|word| u64::from(word) % Q)).collect()
 }
 
-/// The high part and the low residue. Together they are the residue; and the low part is as small as it has to be, but for the
-/// residues that FIPS 204 gives one more.
+/// The high part and the low residue. Together they are the residue; and the low part lies in −γ2 < r0 ≤ γ2, but for −γ2 at the
+/// residue q − γ2, where FIPS 204 takes one more off.
 fn parts(set: Set, residue: u64) -> [u64; 2] {
     let (high, low) = plain(set, residue);
     let (q, half) = (Q as i64, set.gamma2 as i64);

@@ -1,7 +1,6 @@
-use Rattle.gate.specs.Gadget.{closed}
-use Rattle.decompose.specs.Decompose.{decompose}
+use borrow.Author.Needs.{needs}
 use mathlib.Core.List.{[], _∷_}
-use mathlib.Core.Path.{_≡_, sym, ap, ap₂, _∙_}
+use mathlib.Core.Path.{_≡_, sym, ap, ap₂, _∙_, refl}
 use Prim.Native.Nat.{_<_}
 use native.Mathlib.Omega.{arith}
 use lib.ListN.{length, take}
@@ -13,27 +12,15 @@ use Rattle.shares.specs.Arrays.{Held, shared}
 use Rattle.shares.specs.Sharing.{arithmetic}
 use Rattle.shares.specs.Refresh.{refresh}
 use Rattle.shares.proofs.ArraysLaws.{held-of}
-use Rattle.gate.specs.Told.{ranTold}
-use Rattle.decompose.specs.Decompose.{highPart, lowShares}
+use Rattle.gate.specs.Gadget.{closed}
+use Rattle.gate.specs.Told.{ranTold, openedRan}
+use Rattle.gate.proofs.GadgetLaws.{held}
+use Rattle.decompose.specs.Decompose.{decompose, highPart, lowShares}
 use Rattle.decompose.specs.Answers.{highStandsFor}
 use Rattle.decompose.proofs.StepLaws.{high-below, low-take, low-words}
-use Rattle.coefficients.specs.Answers.{partsStandFor}
-use Rattle.gate.specs.Told.{openedRan, ranTold}
-use Rattle.gate.proofs.GadgetLaws.{held}
 use Rattle.coefficients.proofs.TellLaws.{told-refused, told-parts, high-ended, high-ran}
-use mathlib.Core.Path.{refl}
-use borrow.Author.Needs.{needs}
 use Rattle.coefficients.proofs.decompose_by.Statement.{statement}
 use Rattle.coefficients.proofs.decompose_by.Tie as tie
-use Rattle.coefficients.proofs.decompose_by.Reads as reads
-use Rattle.coefficients.proofs.decompose_by.Lts as lts
-use Rattle.coefficients.proofs.refused_parts.Reads as refused-parts-reads
-use Rattle.decompose.proofs.high_part.Reads as high-part-reads
-use Rattle.decompose.proofs.low_shares.Reads as low-shares-reads
-use Rattle.gate.proofs.copy_in.Reads as copy-in-reads
-use Rattle.gate.proofs.finish.Reads as finish-reads
-use Rattle.shares.proofs.refresh.Reads as refresh-reads
-use Rattle.tape.proofs.Cursor.start.Reads as start-reads
 
 -- the copied shares
 copied : (c : tie.After-high-part) →

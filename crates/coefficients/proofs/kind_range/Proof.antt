@@ -1,16 +1,12 @@
+use borrow.Author.Needs.{needs}
 use mathlib.Core.Path.{sym, ap, _∙_}
 use mathlib.Core.Bool.{Bool}
 use borrow.Author.Tests.{not-true, not-false}
 use Rattle.numbers.specs.Tests.{both}
 use Rattle.gate.specs.Checks.{inside}
 use Rattle.coefficients.specs.Coefficients.{kindRange}
-use borrow.Author.Needs.{needs}
 use Rattle.coefficients.proofs.kind_range.Statement.{statement}
 use Rattle.coefficients.proofs.kind_range.Tie as tie
-use Rattle.coefficients.proofs.kind_range.Reads as reads
-use Rattle.coefficients.proofs.kind_range.Lts as lts
-use Rattle.gate.proofs.inside.Reads as inside-reads
-use Rattle.params.proofs.Params.known.Reads as known-reads
 
 known-requires : tie.Need-known-requires
 known-requires c κs = search needs

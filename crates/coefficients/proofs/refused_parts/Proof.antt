@@ -1,11 +1,8 @@
 use mathlib.Core.Path.{refl}
 use Rattle.gate.specs.Told.{refusal}
 use Rattle.coefficients.specs.Answers.{partsStandFor}
-use borrow.Author.Needs.{needs}
 use Rattle.coefficients.proofs.refused_parts.Statement.{statement}
 use Rattle.coefficients.proofs.refused_parts.Tie as tie
-use Rattle.coefficients.proofs.refused_parts.Reads as reads
-use Rattle.coefficients.proofs.refused_parts.Lts as lts
 
 returns : tie.Need-returns
 unfolding refusal partsStandFor

@@ -1,35 +1,23 @@
+use borrow.Author.Needs.{needs}
 use mathlib.Core.Path.{_≡_, sym, ap, _∙_}
 use mathlib.Core.Bool.{Bool, true}
 use lib.ListN.{length}
 use denote.Ref.{now}
 use Rattle.numbers.specs.Modulo.{q}
-use Rattle.numbers.specs.Tests.{both}
 use Rattle.params.specs.declared.Params.{Params}
 use Rattle.params.specs.Sets.{known, ofKind}
 use Rattle.params.proofs.SetLaws.{kind-laws}
 use Rattle.tape.specs.Tape.{start}
 use Rattle.draws.specs.Draws.{bind, run}
-use Rattle.shares.specs.Sharing.{arithmetic}
 use Rattle.shares.specs.Refresh.{refresh}
-use Rattle.gate.specs.Checks.{inside, firstFailing, checks}
-use Rattle.gate.specs.Gadget.{closed}
+use Rattle.gate.specs.Checks.{firstFailing, checks}
 use Rattle.gate.proofs.CheckLaws.{both-left, Passed, all-passed}
 use Rattle.gate.proofs.AdmitLaws.{not-admitted, Good, good}
-use Rattle.gate.proofs.GadgetLaws.{silent-refused, silent-ran, gadget-refused, gadget-ran}
+use Rattle.gate.proofs.GadgetLaws.{silent-refused, silent-ran}
 use Rattle.widening.specs.Widening.{widened, widen}
-use Rattle.decompose.specs.Decompose.{decompose}
-use Rattle.coefficients.specs.Coefficients.{kindRange, widenGadget, decomposeGadget}
-use borrow.Author.Needs.{needs}
+use Rattle.coefficients.specs.Coefficients.{kindRange, widenGadget}
 use Rattle.coefficients.proofs.widen.Statement.{statement}
 use Rattle.coefficients.proofs.widen.Tie as tie
-use Rattle.coefficients.proofs.widen.Reads as reads
-use Rattle.coefficients.proofs.widen.Lts as lts
-use Rattle.coefficients.proofs.kind_range.Reads as kind-range-reads
-use Rattle.coefficients.proofs.widen_by.Reads as widen-by-reads
-use Rattle.gate.proofs.admit.Reads as admit-reads
-use Rattle.gate.proofs.first_failing.Reads as first-failing-reads
-use Rattle.gate.proofs.refused.Reads as refused-reads
-use Rattle.params.proofs.Params.of_kind.Reads as of-kind-reads
 
 -- the first check that failed, the parameters being in range or not
 number : (c : tie.After-first-failing) →

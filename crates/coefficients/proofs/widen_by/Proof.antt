@@ -10,16 +10,8 @@ use Rattle.gate.specs.Told.{silentRan, ranTold}
 use Rattle.gate.proofs.GadgetLaws.{closed-on-copy, held, held-given}
 use Rattle.widening.specs.Widening.{widen}
 use Rattle.widening.proofs.StepLaws.{wide-two}
-use Rattle.coefficients.proofs.widen_by.Reads as reads
-use Rattle.coefficients.proofs.widen_by.Lts as lts
 use Rattle.coefficients.proofs.widen_by.Statement.{statement}
 use Rattle.coefficients.proofs.widen_by.Tie as tie
-use Rattle.gate.proofs.copy_in.Reads as copy-in-reads
-use Rattle.gate.proofs.finish.Reads as finish-reads
-use Rattle.shares.proofs.close.Reads as close-reads
-use Rattle.tape.proofs.Cursor.start.Reads as start-reads
-use Rattle.widening.proofs.wide.Reads as wide-reads
-use Rattle.widening.proofs.widen.Reads as widen-reads
 
 copy-in-requires : tie.Need-copy-in-requires
 copy-in-requires c κs = c .before .before .before .pre .1 .most

@@ -1,16 +1,12 @@
-use mathlib.Core.Path.{_≡_, ap, _∙_}
+use borrow.Author.Needs.{needs}
+use mathlib.Core.Path.{ap, _∙_}
 use borrow.Author.Tests.{not-false}
 use Rattle.tape.specs.Tape.{ran}
 use Rattle.shares.proofs.ArraysLaws.{held-below, gave, stopped}
 use Rattle.decompose.specs.Answers.{highStandsFor}
 use Rattle.decompose.proofs.StepLaws.{shares-ended, opens}
-use borrow.Author.Needs.{needs}
 use Rattle.decompose.proofs.high_part.Statement.{statement}
 use Rattle.decompose.proofs.high_part.Tie as tie
-use Rattle.decompose.proofs.high_part.Reads as reads
-use Rattle.decompose.proofs.high_part.Lts as lts
-use Rattle.decompose.proofs.high_shares.Reads as high-shares-reads
-use Rattle.shares.proofs.opened.Reads as opened-reads
 
 high-shares-requires : tie.Need-high-shares-requires
 high-shares-requires c κs = search needs

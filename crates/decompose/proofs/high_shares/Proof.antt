@@ -13,14 +13,8 @@ use Rattle.shares.specs.Arrays.{Held}
 use Rattle.shares.proofs.ArraysLaws.{held-of, held-below, given-as}
 use Rattle.switching.specs.Switching.{carries}
 use Rattle.decompose.proofs.StepLaws.{offset-words, floors-room, count-room, high-shares-is}
-use Rattle.decompose.proofs.high_shares.Reads as reads
-use Rattle.decompose.proofs.high_shares.Lts as lts
 use Rattle.decompose.proofs.high_shares.Statement.{statement}
 use Rattle.decompose.proofs.high_shares.Tie as tie
-use Rattle.shares.proofs.add_to_first.Reads as add-to-first-reads
-use Rattle.switching.proofs.carries_by_q.Reads as carries-by-q-reads
-use Rattle.words.proofs.alpha.Reads as alpha-reads
-use Rattle.words.proofs.power.Reads as power-reads
 
 fit : (c : tie.After-alpha) → let s = c .before .before .before in s .args .n ≤ length (s .args .shares)
 fit c = let s = c .before .before .before in omega (arith, s .pre .1 .most, s .pre .1 .all .size)

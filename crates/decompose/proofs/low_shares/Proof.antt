@@ -1,11 +1,8 @@
 use native.Mathlib.Omega.{arith}
 use Rattle.params.proofs.RoomLaws.{half-below, multiple-below}
 use Rattle.decompose.specs.Decompose.{lowShares}
-use Rattle.decompose.proofs.low_shares.Reads as reads
-use Rattle.decompose.proofs.low_shares.Lts as lts
 use Rattle.decompose.proofs.low_shares.Statement.{statement}
 use Rattle.decompose.proofs.low_shares.Tie as tie
-use Rattle.shares.proofs.take_from_first.Reads as take-from-first-reads
 
 mul-take-from-first : tie.Need-mul-take-from-first
 mul-take-from-first c = omega (arith, half-below (c .before .pre .0))

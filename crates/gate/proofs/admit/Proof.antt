@@ -6,11 +6,8 @@ use native.Mathlib.Omega.{arith}
 use Rattle.params.proofs.SetLaws.{set-is, set-unknown}
 use Rattle.gate.specs.Admission.{admittedStandsFor}
 use Rattle.gate.proofs.AdmitLaws.{refused-admits, set-admits}
-use Rattle.gate.proofs.admit.Reads as reads
-use Rattle.gate.proofs.admit.Lts as lts
 use Rattle.gate.proofs.admit.Statement.{statement}
 use Rattle.gate.proofs.admit.Tie as tie
-use Rattle.params.proofs.Params.of_set.Reads as of-set-reads
 
 returns : tie.Need-returns
 unfolding admittedStandsFor

@@ -19,17 +19,8 @@ use Rattle.gate.proofs.AdmitLaws.{not-admitted, Good, good}
 use Rattle.gate.proofs.GadgetLaws.{sampler-refused, sampler-ran}
 use Rattle.sample.specs.Sampling.{coefficient}
 use Rattle.samplers.specs.Samplers.{sampler}
-use Rattle.samplers.proofs.sample.Reads as reads
-use Rattle.samplers.proofs.sample.Lts as lts
 use Rattle.samplers.proofs.sample.Statement.{statement}
 use Rattle.samplers.proofs.sample.Tie as tie
-use Rattle.gate.proofs.admit.Reads as admit-reads
-use Rattle.gate.proofs.finish.Reads as finish-reads
-use Rattle.gate.proofs.first_of_three.Reads as first-of-three-reads
-use Rattle.gate.proofs.refused.Reads as refused-reads
-use Rattle.params.proofs.Params.known.Reads as known-reads
-use Rattle.sample.proofs.coefficient.Reads as coefficient-reads
-use Rattle.tape.proofs.Cursor.start.Reads as start-reads
 
 -- the first check that failed, the set being known or not
 number : (c : tie.After-first-of-three) →

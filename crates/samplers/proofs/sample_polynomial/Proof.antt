@@ -15,15 +15,8 @@ use Rattle.gate.proofs.AdmitLaws.{not-admitted, Good, good}
 use Rattle.gate.proofs.GadgetLaws.{sampler-refused, sampler-ran}
 use Rattle.sample.specs.Sampling.{polynomial}
 use Rattle.samplers.specs.Samplers.{polynomialSampler}
-use Rattle.samplers.proofs.sample_polynomial.Reads as reads
-use Rattle.samplers.proofs.sample_polynomial.Lts as lts
 use Rattle.samplers.proofs.sample_polynomial.Statement.{statement}
 use Rattle.samplers.proofs.sample_polynomial.Tie as tie
-use Rattle.gate.proofs.admit.Reads as admit-reads
-use Rattle.gate.proofs.first_of_three.Reads as first-of-three-reads
-use Rattle.gate.proofs.refused.Reads as refused-reads
-use Rattle.params.proofs.Params.known.Reads as known-reads
-use Rattle.samplers.proofs.fill.Reads as fill-reads
 
 -- the first check that failed, the set being known or not
 number : (c : tie.After-first-of-three) →

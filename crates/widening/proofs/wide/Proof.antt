@@ -3,11 +3,8 @@ use Prim.Native.Nat.{_*_, _^_, _<_}
 use native.Mathlib.Omega.{arith}
 use Rattle.numbers.specs.Modulo.{q}
 use Rattle.params.proofs.RoomLaws.{rho-most}
-use Rattle.widening.proofs.wide.Reads as reads
-use Rattle.widening.proofs.wide.Lts as lts
 use Rattle.widening.proofs.wide.Statement.{statement}
 use Rattle.widening.proofs.wide.Tie as tie
-use Rattle.words.proofs.power.Reads as power-reads
 
 power-requires : tie.Need-power-requires
 power-requires c κs = omega (arith, rho-most (c .pre))

@@ -17,18 +17,8 @@ use Rattle.switching.specs.Switching.{carries, without}
 use Rattle.switching.proofs.StepLaws.{without-words}
 use Rattle.widening.specs.Widening.{wide, widened}
 use Rattle.widening.proofs.StepLaws.{offset-words, reach-wide, widened-words, floors-room, count-room, widen-ended, widen-ran}
-use Rattle.widening.proofs.widen.Reads as reads
-use Rattle.widening.proofs.widen.Lts as lts
 use Rattle.widening.proofs.widen.Statement.{statement}
 use Rattle.widening.proofs.widen.Tie as tie
-use Rattle.shares.proofs.Shared.ended.Reads as ended-reads
-use Rattle.shares.proofs.add_to_first.Reads as add-to-first-reads
-use Rattle.shares.proofs.take_from_first.Reads as take-from-first-reads
-use Rattle.switching.proofs.carries_by_q.Reads as carries-by-q-reads
-use Rattle.widening.proofs.wide.Reads as wide-reads
-use Rattle.widening.proofs.without_carries.Reads as without-carries-reads
-use Rattle.words.proofs.alpha.Reads as alpha-reads
-use Rattle.words.proofs.power.Reads as power-reads
 
 fit : (c : tie.After-alpha) → let s = c .before .before .before in s .args .n ≤ length (s .args .shares)
 fit c = let s = c .before .before .before in omega (arith, s .pre .1 .most, s .pre .1 .all .size)

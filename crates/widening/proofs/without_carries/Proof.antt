@@ -7,11 +7,8 @@ use Rattle.numbers.proofs.WordsLaws.{words-at}
 use Rattle.numbers.proofs.AlongLaws.{Along, along-start, along-read, along-more, along-all}
 use Rattle.switching.specs.Switching.{without}
 use Rattle.widening.proofs.StepLaws.{multiple-below, share-below}
-use Rattle.widening.proofs.without_carries.Reads as reads
-use Rattle.widening.proofs.without_carries.Lts as lts
 use Rattle.widening.proofs.without_carries.Statement.{statement}
 use Rattle.widening.proofs.without_carries.Tie as tie
-use Rattle.words.proofs.sub_mod.Reads as sub-mod-reads
 
 abbrev Inv-loop : tie.InvT-loop
 Inv-loop factor m carries words₀ i₀ words i = Along 8 (λ j x. subMod m x (q * getD carries j 0)) words₀ i words

@@ -1,11 +1,8 @@
 use borrow.Author.Needs.{needs}
 use mathlib.Core.Path.{sym}
 use Rattle.params.proofs.SetLaws.{set-known, set-unknown}
-use Rattle.params.proofs.Params.known.Reads as reads
-use Rattle.params.proofs.Params.known.Lts as lts
 use Rattle.params.proofs.Params.known.Statement.{statement}
 use Rattle.params.proofs.Params.known.Tie as tie
-use Rattle.params.proofs.Params.of_set.Reads as of-set-reads
 
 of-set-requires : tie.Need-of-set-requires
 of-set-requires c κs = search needs

@@ -5,7 +5,6 @@ use native.Mathlib.Omega.{arith}
 use lib.ListN.{length, length-set}
 use Rattle.residues.proofs.tried.share.Statement.{statement}
 use Rattle.residues.proofs.tried.share.Tie as tie
-use Rattle.residues.proofs.plain.minus.Reads as minus-reads
 
 abbrev Inv-loop : tie.InvT-loop
 Inv-loop residue words₀ last left₀ i₀ words left i = (length words ≡ length words₀) × (last < length words) × (i ≤ last)

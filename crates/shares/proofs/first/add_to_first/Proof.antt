@@ -5,11 +5,8 @@ use lib.ListN.{set}
 use Rattle.numbers.specs.Lists.{change}
 use Rattle.numbers.proofs.WordsLaws.{words-at}
 use Rattle.shares.specs.Sharing.{addToFirst}
-use Rattle.shares.proofs.first.add_to_first.Reads as reads
-use Rattle.shares.proofs.first.add_to_first.Lts as lts
 use Rattle.shares.proofs.first.add_to_first.Statement.{statement}
 use Rattle.shares.proofs.first.add_to_first.Tie as tie
-use Rattle.words.proofs.add_mod.Reads as add-mod-reads
 
 array-read-add-mod : tie.Need-array-read-add-mod
 array-read-add-mod c = search needs

@@ -5,11 +5,8 @@ use lib.ListN.{set}
 use Rattle.numbers.specs.Lists.{change}
 use Rattle.numbers.proofs.WordsLaws.{words-at}
 use Rattle.shares.specs.Sharing.{takeFromFirst}
-use Rattle.shares.proofs.first.take_from_first.Reads as reads
-use Rattle.shares.proofs.first.take_from_first.Lts as lts
 use Rattle.shares.proofs.first.take_from_first.Statement.{statement}
 use Rattle.shares.proofs.first.take_from_first.Tie as tie
-use Rattle.words.proofs.sub_mod.Reads as sub-mod-reads
 
 array-read-sub-mod : tie.Need-array-read-sub-mod
 array-read-sub-mod c = search needs

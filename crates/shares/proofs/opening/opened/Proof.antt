@@ -2,11 +2,8 @@ use borrow.Author.Needs.{needs}
 use Prim.Native.Nat.{_-_}
 use Rattle.shares.proofs.OpeningLaws.{Opening, opening-start, opening-below, opening-more, opening-all}
 use Rattle.shares.proofs.ArraysLaws.{held-at}
-use Rattle.shares.proofs.opening.opened.Reads as reads
-use Rattle.shares.proofs.opening.opened.Lts as lts
 use Rattle.shares.proofs.opening.opened.Statement.{statement}
 use Rattle.shares.proofs.opening.opened.Tie as tie
-use Rattle.words.proofs.add_mod.Reads as add-mod-reads
 
 abbrev Inv-loop : tie.InvT-loop
 Inv-loop n m shares sum₀ i₀ sum i = Opening n m shares i sum

@@ -4,8 +4,6 @@ use native.Mathlib.Omega.{arith}
 use native.Mathlib.Nat.{le-of-lt}
 use Rattle.numbers.specs.Modulo.{q}
 use Rattle.switching.proofs.StepLaws.{scaled-small, scaled-fits}
-use Rattle.switching.proofs.steps.floor_by_q.Reads as reads
-use Rattle.switching.proofs.steps.floor_by_q.Lts as lts
 use Rattle.switching.proofs.steps.floor_by_q.Statement.{statement}
 use Rattle.switching.proofs.steps.floor_by_q.Tie as tie
 

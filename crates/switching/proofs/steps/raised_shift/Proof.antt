@@ -10,13 +10,8 @@ use Rattle.shares.proofs.ArraysLaws.{given-as}
 use Rattle.shift.specs.Shift.{shift}
 use Rattle.switching.specs.Switching.{raisedShift}
 use Rattle.switching.proofs.StepLaws.{raised-held, raised-take}
-use Rattle.switching.proofs.steps.raised_shift.Reads as reads
-use Rattle.switching.proofs.steps.raised_shift.Lts as lts
 use Rattle.switching.proofs.steps.raised_shift.Statement.{statement}
 use Rattle.switching.proofs.steps.raised_shift.Tie as tie
-use Rattle.shares.proofs.add_to_first.Reads as add-to-first-reads
-use Rattle.shift.proofs.shift_by.Reads as shift-by-reads
-use Rattle.words.proofs.power.Reads as power-reads
 
 first : (c : tie.After-add-to-first) →
     let a = c .before .before .before .args in
