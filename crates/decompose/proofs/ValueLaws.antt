@@ -18,7 +18,7 @@ use Rattle.draws.proofs.Outcomes.{Gives}
 use Rattle.draws.proofs.PlanLaws.{gives-bind, gives-map}
 use Rattle.shares.specs.Sharing.{arithmetic, value, addToFirst}
 use Rattle.shares.specs.Refresh.{refresh, refreshPlan}
-use Rattle.shares.proofs.SharingLaws.{Shares}
+use Rattle.shares.proofs.SharingLaws.{Shares, value-below}
 use Rattle.shares.proofs.FirstLaws.{added-first, taken-first}
 use Rattle.shares.proofs.RefreshLaws.{refresh-keeps}
 use Rattle.switching.proofs.CarryLaws.{Carried, carries-give}
@@ -35,9 +35,6 @@ scaled-floor Q T Y e some h =
     let low : y * T ≤ G = le-div-iff-mul-le some .1 (omega (arith, mul-le-mul-right T (div-mul-le-self Y Q))) in
     let up : (G + e) * Q < (y + 1) * T * Q = omega (arith, div-mul-le-self (Y * T) Q, mul-le-mul-right T (lt-div-mul-add {a = Y} some)) in
     div-eq-of-lt-le T (omega arith) (lt-of-mul-lt-mul-right Q up)
-
-value-below : {n x : ℕ} {xs : List ℕ} → Shares (arithmetic q) n x xs → x < q
-value-below {xs = xs} a = subst (λ (y : ℕ). y < q) (a .is) (mod-lt (sum xs) (omega arith))
 
 -- low shares of x
 pub record Low (γ2 n x : ℕ) (ys : List ℕ) : Type 0 where
@@ -85,7 +82,7 @@ module _ {p : Params} (l : Laws p) where
     offset = added-first (arithmetic q) (p .gamma2) (omega arith) (half-below l) (omega arith) a
 
     below : x < q
-    below = value-below a
+    below = value-below (arithmetic q) (omega arith) a
 
     -- as many shares as there are lose less than 2^(23+α)
     room : (e : ℕ) → e ≤ d → e * q < 2 ^ t
@@ -122,7 +119,7 @@ module _ {p : Params} (l : Laws p) where
   low-gives : (n x high : ℕ) (xs : List ℕ) → 0 < n → Shares (arithmetic q) n x xs → high ≡ highOf (p .gamma2) x → Low (p .gamma2) n x (lowShares p high xs)
   unfolding lowShares
   low-gives n x high xs some a e =
-      let below : x < q = value-below a in
+      let below : x < q = value-below (arithmetic q) (omega arith) a in
       let r : ℕ = 2 * p .gamma2 * highOf (p .gamma2) x in
       let w = taken-first (arithmetic q) r (omega arith) (multiple-below l (plain-small x below)) some a in
       rw e (record { words = w .words; is = ap (centred q) (w .is) ∙ plain-low x below })

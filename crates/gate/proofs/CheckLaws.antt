@@ -173,6 +173,11 @@ module _ (shares : List ℕ) (room : ℕ) (inRange : Bool) (M : ℕ) where
 bound-of-width : {k r : ℕ} → r ≡ 2 ^ (k % 32) → k ≤ 31 → r ≡ 2 ^ k
 bound-of-width e h = e ∙ ap (λ (j : ℕ). 2 ^ j) (mod-eq-of-lt (omega arith))
 
+-- what was checked, of a range that was computed
+pub range-checked : (n room words : ℕ) (more : List (ℕ × Bool)) {k : ℕ} {a b : Bool} → k ≡ firstFailing (checksOf n room words a more) → a ≡ b →
+    k ≡ firstFailing (checksOf n room words b more)
+range-checked n room words more e f = e ∙ ap (λ (c : Bool). firstFailing (checksOf n room words c more)) f
+
 -- what was checked, of a range and a bound that were computed; the bound counts only where the parameters are in range
 pub checked : (shares : List ℕ) (room : ℕ) {k : ℕ} {a b : Bool} {M N : ℕ} → k ≡ firstFailing (checks shares room a M) → a ≡ b → (b ≡ true → M ≡ N) →
     k ≡ firstFailing (checks shares room b N)

@@ -1,6 +1,7 @@
 // The residues of a line.
 use super::tried::Tally;
 use super::tried::tried;
+use trials::gamma2;
 use trials::mix;
 use trials::step;
 ghost use Prim.Native.Nat.{_<_, _≤_};
@@ -16,8 +17,8 @@ fn all(set: u32) -> Tally {
     t
 }
 
-// Around each of the 2δ multiples of γ2 below q − 1 nine residues are tried.
-fn neighbours(set: u32) -> u32
+// How many: nine around each of the 2δ multiples of γ2 below q − 1.
+fn count_around(set: u32) -> u32
     ensures { λ r. ⌜ r ≤ 792 ⌝ }
 {
     match set {
@@ -26,29 +27,19 @@ fn neighbours(set: u32) -> u32
     }
 }
 
-fn multiple(set: u32, j: u32) -> u32
-    requires { ⌜ j < 88 ⌝ }
-    ensures { λ r. ⌜ r < 30000000 ⌝ }
-{
-    match set {
-        44 => j * 95232,
-        _ => j * 261888,
-    }
-}
-
 // The parts change at the odd multiples, and the sign of the low part at the even ones.
 fn neighbour(set: u32, i: u32) -> u32
     requires { ⌜ i < 792 ⌝ }
     ensures { λ r. ⌜ r < 8380417 ⌝ }
 {
-    (8380413 + multiple(set, i / 9) + i % 9) % 8380417
+    (8380413 + i / 9 * gamma2(set) + i % 9) % 8380417
 }
 
 fn around(t: Tally, set: u32, n: usize, tape: &mut [u32]) -> Tally
     requires { ⌜ n ≤ 8 ⌝ }
 {
     let mut s = t;
-    for i in 0..neighbours(set) {
+    for i in 0..count_around(set) {
         let next = tried(s, set, n, neighbour(set, i), tape);
         s = next;
     }

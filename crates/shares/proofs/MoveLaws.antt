@@ -1,6 +1,6 @@
 -- A number added to a share, taken from one, or moved from one to another: which shares change, that their words stay below the bound, and
 -- what becomes of the value.
-use mathlib.Core.Path.{_≡_, sym, ap, subst, _∙_}
+use mathlib.Core.Path.{_≡_, sym, ap, _∙_}
 use mathlib.Core.Logic.{_≢_}
 use mathlib.Core.List.{List}
 use Prim.Native.Nat.{ℕ, _<_}
@@ -11,7 +11,7 @@ use Rattle.numbers.proofs.GroupLaws.{Group, add-cancel, add-sub}
 use Rattle.numbers.proofs.WordsLaws.{words-at, words-change, length-change, change-here, change-other, take-change}
 use Rattle.numbers.proofs.FoldLaws.{fold-below, fold-add, fold-sub}
 use Rattle.shares.specs.Sharing.{Sharing, bound, plus, minus, move}
-use Rattle.shares.proofs.SharingLaws.{Shares, group, fold-value}
+use Rattle.shares.proofs.SharingLaws.{Shares, group, fold-value, value-below}
 
 module _ (s : Sharing) (from to r : ℕ) (xs : List ℕ) where
   pub move-length : length (move s from to r xs) ≡ length xs
@@ -70,7 +70,6 @@ module _ (s : Sharing) (pos : 0 < bound s) (i r : ℕ) (h : r < bound s) {n v : 
 -- so to move one keeps the value
 pub move-keeps : (s : Sharing) → 0 < bound s → (from to r : ℕ) → r < bound s → {n : ℕ} {xs : List ℕ} {v : ℕ} → from < n → to < n → Shares s n v xs → Shares s n v (move s from to r xs)
 unfolding move
-move-keeps s pos from to r h {xs = xs} {v} hf ht a =
+move-keeps s pos from to r h {v = v} hf ht a =
     let b = taken-value s pos from r h hf (added-value s pos to r h ht a) in
-    let below : v < bound s = subst (λ (x : ℕ). x < bound s) (fold-value s pos xs ∙ a .is) (fold-below (group s pos) xs (a .words)) in
-    record { words = b .words; is = b .is ∙ add-sub (group s pos) v r below h }
+    record { words = b .words; is = b .is ∙ add-sub (group s pos) v r (value-below s pos a) h }

@@ -3,7 +3,7 @@
 use mathlib.Core.Path.{_≡_, refl, sym, ap, subst, _∙_}
 use mathlib.Core.List.{List}
 use Prim.Native.Nat.{ℕ, suc, _+_, _-_, _*_, _/_, _%_, _^_, _≤_, _<_}
-use native.Mathlib.Nat.{mod-lt, mod-eq-of-lt, mul-comm, mul-one, mul-le-mul-right, div-le-of-le-mul}
+use native.Mathlib.Nat.{mod-eq-of-lt, mul-comm, mul-one, mul-le-mul-right, div-le-of-le-mul}
 use native.Mathlib.Decide.{decLe}
 use native.Mathlib.Omega.{arith}
 use lib.Pow.{pow-pos, pow-add}
@@ -22,7 +22,7 @@ use Rattle.draws.proofs.Outcomes.{Gives}
 use Rattle.draws.proofs.PlanLaws.{gives-map}
 use Rattle.draws.proofs.RunLaws.{bind-assoc}
 use Rattle.shares.specs.Sharing.{arithmetic, value, addToFirst, takeFromFirst}
-use Rattle.shares.proofs.SharingLaws.{Shares}
+use Rattle.shares.proofs.SharingLaws.{Shares, value-below}
 use Rattle.shares.proofs.FirstLaws.{added-first, taken-first, taken-words}
 use Rattle.switching.specs.Switching.{carries, without}
 use Rattle.switching.proofs.StepLaws.{without-words}
@@ -75,11 +75,11 @@ module _ {k : Bounds} (h : KindLaws k) (d x : ℕ) {xs : List ℕ} (a : Shares (
 
     X-most : X ≤ 2 * k .b
     unfolding X
-    X-most = reach-most q (k .b) x (subst (λ (y : ℕ). y < q) (a .is) (mod-lt (sum xs) (omega arith))) (omega (arith, h .quarter)) i
+    X-most = reach-most q (k .b) x (value-below (arithmetic q) (omega arith) a) (omega (arith, h .quarter)) i
 
     X-is : pos X -ℤ pos (k .b) ≡ centred q x
     unfolding X
-    X-is = reach-is q (k .b) x (subst (λ (y : ℕ). y < q) (a .is) (mod-lt (sum xs) (omega arith))) (omega (arith, h .quarter)) i
+    X-is = reach-is q (k .b) x (value-below (arithmetic q) (omega arith) a) (omega (arith, h .quarter)) i
 
     X-small : X % wide k ≡ X
     X-small = mod-eq-of-lt (omega (arith, X-most, h .quarter, wide-least h))

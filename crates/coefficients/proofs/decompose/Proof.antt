@@ -1,6 +1,6 @@
 use borrow.Author.Needs.{needs}
-use mathlib.Core.Path.{_≡_, sym, ap, _∙_}
-use mathlib.Core.Bool.{Bool, true}
+use mathlib.Core.Path.{_≡_, refl, sym, ap, _∙_}
+use mathlib.Core.Bool.{true}
 use lib.ListN.{length}
 use denote.Ref.{now}
 use Rattle.numbers.specs.Modulo.{q}
@@ -11,7 +11,7 @@ use Rattle.draws.specs.Draws.{run}
 use Rattle.shares.specs.Sharing.{arithmetic}
 use Rattle.gate.specs.Checks.{firstFailing, checks}
 use Rattle.gate.specs.Gadget.{closed}
-use Rattle.gate.proofs.CheckLaws.{Passed, all-passed}
+use Rattle.gate.proofs.CheckLaws.{Passed, all-passed, checked}
 use Rattle.gate.proofs.AdmitLaws.{not-admitted, Good, good}
 use Rattle.gate.proofs.GadgetLaws.{gadget-refused, gadget-ran}
 use Rattle.decompose.specs.Decompose.{decompose}
@@ -23,9 +23,7 @@ use Rattle.coefficients.proofs.decompose.Tie as tie
 number : (c : tie.After-first-failing) →
     let a = c .before .before .before .before .before .args in
     c .first-failing .result ≡ firstFailing (checks (now (a .shares)) (length (now (a .out))) (known (a .set)) q)
-number c =
-    let a = c .before .before .before .before .before .args in
-    c .first-failing .ensures ∙ ap (λ (b : Bool). firstFailing (checks (now (a .shares)) (length (now (a .out))) b q)) (c .before .known .ensures)
+number c = checked _ _ (c .first-failing .ensures) (c .before .known .ensures) (λ t. refl)
 
 -- what is known where none did
 passed : (c : tie.After-first-failing) → c .first-failing .result ≡ 0 →

@@ -1,6 +1,6 @@
 use borrow.Author.Needs.{needs}
-use mathlib.Core.Path.{_≡_, sym, ap, _∙_}
-use mathlib.Core.Bool.{Bool, true}
+use mathlib.Core.Path.{_≡_, refl, sym, ap, _∙_}
+use mathlib.Core.Bool.{true}
 use lib.ListN.{length}
 use denote.Ref.{now}
 use Rattle.numbers.specs.Modulo.{q}
@@ -11,7 +11,7 @@ use Rattle.tape.specs.Tape.{start}
 use Rattle.draws.specs.Draws.{bind, run}
 use Rattle.shares.specs.Refresh.{refresh}
 use Rattle.gate.specs.Checks.{firstFailing, checks}
-use Rattle.gate.proofs.CheckLaws.{both-left, Passed, all-passed}
+use Rattle.gate.proofs.CheckLaws.{both-left, Passed, all-passed, checked}
 use Rattle.gate.proofs.AdmitLaws.{not-admitted, Good, good}
 use Rattle.gate.proofs.GadgetLaws.{silent-refused, silent-ran}
 use Rattle.widening.specs.Widening.{widened, widen}
@@ -23,9 +23,7 @@ use Rattle.coefficients.proofs.widen.Tie as tie
 number : (c : tie.After-first-failing) →
     let a = c .before .before .before .before .before .args in
     c .first-failing .result ≡ firstFailing (checks (now (a .shares)) (length (now (a .out))) (kindRange (a .set) (a .kind)) q)
-number c =
-    let a = c .before .before .before .before .before .args in
-    c .first-failing .ensures ∙ ap (λ (b : Bool). firstFailing (checks (now (a .shares)) (length (now (a .out))) b q)) (c .before .kind-range .ensures)
+number c = checked _ _ (c .first-failing .ensures) (c .before .kind-range .ensures) (λ t. refl)
 
 -- what is known where none did
 passed : (c : tie.After-first-failing) → c .first-failing .result ≡ 0 →

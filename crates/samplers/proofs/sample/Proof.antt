@@ -1,6 +1,5 @@
 use borrow.Author.Needs.{needs}
 use mathlib.Core.Path.{_≡_, sym, ap, ap₂, _∙_}
-use mathlib.Core.Bool.{Bool}
 use mathlib.Core.List.{[]}
 use Prim.Native.Nat.{ℕ, _*_}
 use native.Mathlib.Nat.{one-mul}
@@ -14,7 +13,7 @@ use Rattle.tape.specs.Tape.{start}
 use Rattle.draws.specs.Draws.{run}
 use Rattle.shares.specs.Arrays.{shared}
 use Rattle.gate.specs.Checks.{firstFailing, checksOf}
-use Rattle.gate.proofs.CheckLaws.{AllPassed, all-checked}
+use Rattle.gate.proofs.CheckLaws.{AllPassed, all-checked, range-checked}
 use Rattle.gate.proofs.AdmitLaws.{not-admitted, Good, good}
 use Rattle.gate.proofs.GadgetLaws.{sampler-refused, sampler-ran}
 use Rattle.sample.specs.Sampling.{coefficient}
@@ -26,9 +25,7 @@ use Rattle.samplers.proofs.sample.Tie as tie
 number : (c : tie.After-first-of-three) →
     let a = c .before .before .before .before .args in
     c .first-of-three .result ≡ firstFailing (checksOf (a .n) (length (now (a .out))) (1 * a .n) (known (a .set)) [])
-number c =
-    let a = c .before .before .before .before .args in
-    c .first-of-three .ensures ∙ ap (λ (b : Bool). firstFailing (checksOf (a .n) (length (now (a .out))) (1 * a .n) b [])) (c .before .known .ensures)
+number c = range-checked _ _ _ _ (c .first-of-three .ensures) (c .before .known .ensures)
 
 -- what is known where none did
 passed : (c : tie.After-first-of-three) → c .first-of-three .result ≡ 0 →

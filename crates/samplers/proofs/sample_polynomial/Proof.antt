@@ -1,6 +1,5 @@
 use borrow.Author.Needs.{needs}
 use mathlib.Core.Path.{_≡_, sym, ap, _∙_}
-use mathlib.Core.Bool.{Bool}
 use mathlib.Core.List.{[]}
 use Prim.Native.Nat.{_*_}
 use lib.ListN.{length}
@@ -10,7 +9,7 @@ use Rattle.params.specs.Sets.{known}
 use Rattle.tape.specs.Tape.{start}
 use Rattle.draws.specs.Draws.{run}
 use Rattle.gate.specs.Checks.{firstFailing, checksOf}
-use Rattle.gate.proofs.CheckLaws.{AllPassed, all-checked}
+use Rattle.gate.proofs.CheckLaws.{AllPassed, all-checked, range-checked}
 use Rattle.gate.proofs.AdmitLaws.{not-admitted, Good, good}
 use Rattle.gate.proofs.GadgetLaws.{sampler-refused, sampler-ran}
 use Rattle.sample.specs.Sampling.{polynomial}
@@ -22,9 +21,7 @@ use Rattle.samplers.proofs.sample_polynomial.Tie as tie
 number : (c : tie.After-first-of-three) →
     let a = c .before .before .before .before .args in
     c .first-of-three .result ≡ firstFailing (checksOf (a .n) (length (now (a .out))) (256 * a .n) (known (a .set)) [])
-number c =
-    let a = c .before .before .before .before .args in
-    c .first-of-three .ensures ∙ ap (λ (b : Bool). firstFailing (checksOf (a .n) (length (now (a .out))) (256 * a .n) b [])) (c .before .known .ensures)
+number c = range-checked _ _ _ _ (c .first-of-three .ensures) (c .before .known .ensures)
 
 -- what is known where none did
 passed : (c : tie.After-first-of-three) → c .first-of-three .result ≡ 0 →

@@ -11,8 +11,8 @@ Inv-loop set n tape₀ s₀ i₀ i-end tape s i = (length tape ≡ length tape�
 abbrev μ-loop : tie.MeasureT-loop
 μ-loop set n tape₀ s₀ i₀ i-end tape s i = i-end - i
 
-neighbours-requires : tie.Need-neighbours-requires Inv-loop μ-loop
-neighbours-requires c κs = search needs
+count-around-requires : tie.Need-count-around-requires Inv-loop μ-loop
+count-around-requires c κs = search needs
 
 loop-holds : tie.Need-loop-holds Inv-loop μ-loop
 loop-holds c = search needs
@@ -44,7 +44,7 @@ around-spec =
     (tie.spec
     Inv-loop
     μ-loop
-    neighbours-requires
+    count-around-requires
     loop-holds
     neighbour-requires
     tried-requires
