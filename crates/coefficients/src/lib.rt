@@ -1,4 +1,6 @@
 // The public gadgets on the shares of one coefficient modulo q, by a parameter set.
+mod judging;
+
 use decompose::High;
 use decompose::high_part;
 use decompose::low_shares;
@@ -10,6 +12,7 @@ use gate::finish;
 use gate::first_failing;
 use gate::inside;
 use gate::refused;
+pub use judging::verdict;
 use params::Bounds;
 use params::Params;
 use shares::close;
@@ -41,7 +44,16 @@ pub struct Decomposed {
     pub used: usize,
 }
 
-// Both parameters of widening are in their ranges.
+// What the verdict answers: 0, or the number of a refusal; 1 where the number is accepted and 0 where it is rejected; what was opened, and how
+// many tape words were read. In a refusal all but the number are 0.
+pub struct Judged {
+    pub number: u32,
+    pub verdict: u32,
+    pub opened: u32,
+    pub used: usize,
+}
+
+// Both parameters of widening and of the verdict are in their ranges.
 fn kind_range(set: u32, kind: u32) -> bool
     ensures { λ r. ⌜ r ≡ kindRange set kind ⌝ }
 {

@@ -6,13 +6,17 @@ use Prim.Native.Nat.{ℕ, _^_, _≤_, _<_}
 use native.Mathlib.Omega.{arith}
 use lib.ListN.{length}
 use lib.Pow.{pow-pos, pow-mono}
+use Rattle.params.specs.Laws.{KindLaws}
+use Rattle.params.specs.Sets.{Known, known, kindOf}
+use Rattle.params.proofs.SetLaws.{set-laws, known-yes, known-so, kind-laws}
 use Rattle.tape.specs.declared.Cursor.{Cursor}
 use Rattle.tape.specs.Tape.{ran, start}
 use Rattle.draws.specs.Draws.{run}
 use Rattle.draws.proofs.Outcomes.{Plan}
 use Rattle.gate.specs.Checks.{inside, firstFailing, checksOf}
 use Rattle.gate.specs.Told.{Outcome, checkNumber}
-use Rattle.gate.proofs.CheckLaws.{inside-yes, inside-out, fails-1, fails-2, fails-3, fails-later}
+use Rattle.gate.proofs.CheckLaws.{both-left, both-right, inside-yes, inside-out, fails-1, fails-2, fails-3, fails-later}
+use Rattle.coefficients.specs.Coefficients.{kindRange}
 use Rattle.demands.specs.Call.{CallClaim, Counted, Valid}
 
 pub record Answers (c : CallClaim) : Type 0 where
@@ -51,6 +55,18 @@ number-range high k M h w = record { tested = record { in-range = inside-out 1 h
 -- a width from 1 to 31
 pub width-range : (k : ℕ) → Range (inside 1 31 k) ((1 ≤ k) × (k ≤ 31)) (2 ^ k)
 width-range k = number-range 31 k (2 ^ k) (pow-pos k) (λ h. pow-mono {i = k} {j = 32} (omega arith))
+
+-- a set and a kind
+pub kind-tested : (set kind : ℕ) → Tested (kindRange set kind) (Known set × ((1 ≤ kind) × (kind ≤ 2)))
+unfolding kindRange
+kind-tested set kind =
+    record {
+      in-range = λ e. (known-so set (both-left (known set) (inside 1 2 kind) e), inside-out 1 2 kind (both-right (known set) (inside 1 2 kind) e));
+      range-in = λ r. rw (known-yes (r .0)) (inside-yes 1 2 kind (r .1 .0) (r .1 .1));
+    }
+
+pub laws-of : {set : ℕ} (kind : ℕ) → Known set → KindLaws (kindOf set kind)
+laws-of kind k = kind-laws (set-laws k) kind
 
 -- a test that is not true is false
 pub not-so : (b : Bool) → ¬ (b ≡ true) → b ≡ false

@@ -9,9 +9,9 @@ use Rattle.params.specs.Sets.{setOf, known, paramsOf}
 use Rattle.tape.specs.Tape.{lowBits, drawFrom, drawAt}
 use Rattle.draws.specs.Draws.{after, next, run, bind, turns, each}
 use Rattle.draws.specs.Plan.{drawAll}
-use Rattle.shares.specs.Sharing.{addToFirst, takeFromFirst, move}
+use Rattle.shares.specs.Sharing.{addToFirst, takeFromFirst, move, negated}
 use Rattle.shares.specs.Refresh.{turn, refresh}
-use Rattle.halving.specs.Halving.{negated, join, joinTurn, sharedParity, less, moveParity, evened, halves, halving}
+use Rattle.halving.specs.Halving.{join, joinTurn, sharedParity, less, moveParity, evened, halves, halving}
 use Rattle.shift.specs.Shift.{shift}
 use Rattle.shift.specs.ToBoolean.{withBit, bitsFrom, toBoolean}
 use Rattle.convert.specs.ToArithmetic.{psi, psis, zOf, added, rule, toArithmetic}

@@ -5,6 +5,8 @@ pub mod SamplerSteps
 pub mod Refusals
 pub mod Values
 pub mod Settings
+pub mod VerdictSteps
+pub mod Scalars
 pub mod Unique
 pub mod Demands
 pub mod Refresh
@@ -13,5 +15,7 @@ pub mod Convert
 pub mod Sample
 pub mod Widen
 pub mod Decompose
+pub mod Verdict
 pub mod Cases
 pub mod Worked
+pub mod WorkedVerdict

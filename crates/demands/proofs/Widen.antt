@@ -7,49 +7,39 @@ use lib.ListN.{length, length-append, length-replicate}
 use Rattle.numbers.specs.Modulo.{q}
 use Rattle.numbers.specs.Bits.{alpha}
 use Rattle.numbers.specs.Lists.{sum}
-use Rattle.params.specs.Laws.{KindLaws}
-use Rattle.params.specs.Sets.{Known, known, kindOf}
-use Rattle.params.proofs.SetLaws.{set-laws, known-yes, known-so, kind-laws}
+use Rattle.params.specs.Sets.{kindOf}
 use Rattle.draws.proofs.PlanLaws.{gives-map}
 use Rattle.shares.specs.Refresh.{refreshPlan}
 use Rattle.shift.proofs.FloorLaws.{shift-draws}
-use Rattle.gate.specs.Checks.{inside}
 use Rattle.gate.specs.Told.{standsFor, silent}
 use Rattle.gate.specs.Gadget.{silentSteps, tells}
-use Rattle.gate.proofs.CheckLaws.{both-left, both-right, inside-yes, inside-out}
 use Rattle.widening.specs.Widening.{widenPlan}
 use Rattle.widening.proofs.StepLaws.{wide-two}
 use Rattle.widening.proofs.ValueLaws.{widen-gives}
-use Rattle.coefficients.specs.Coefficients.{kindRange, widenGadget}
+use Rattle.coefficients.specs.Coefficients.{widenGadget}
 use Rattle.demands.specs.Claim.{plan}
 use Rattle.demands.specs.Demands.{Demands}
 use Rattle.demands.specs.Unique.{Unique}
 use Rattle.demands.specs.Widen.{widenClaim}
+use Rattle.demands.proofs.Answers.{kind-tested, laws-of}
 use Rattle.demands.proofs.Steps.{Steps}
 use Rattle.demands.proofs.Demands.{demands}
 use Rattle.demands.proofs.Unique.{unique}
 
-laws : {set : ℕ} (kind : ℕ) → Known set → KindLaws (kindOf set kind)
-laws kind k = kind-laws (set-laws k) kind
-
 widen-steps : (set kind : ℕ) → Steps (widenClaim set kind)
-unfolding widenGadget kindRange silentSteps
+unfolding widenGadget silentSteps
 widen-steps set kind =
     record {
       range =
           record {
-            tested =
-                record {
-                  in-range = λ e. (known-so set (both-left (known set) (inside 1 2 kind) e), inside-out 1 2 kind (both-right (known set) (inside 1 2 kind) e));
-                  range-in = λ r. rw (known-yes (r .0)) (inside-yes 1 2 kind (r .1 .0) (r .1 .1));
-                };
-            positive = λ r. omega (arith, wide-two (laws kind (r .0)));
-            word = λ r. omega (arith, laws kind (r .0) .word);
+            tested = kind-tested set kind;
+            positive = λ r. omega (arith, wide-two (laws-of kind (r .0)));
+            word = λ r. omega (arith, laws-of kind (r .0) .word);
           };
       has-fields = refl;
       opens-fields = λ x. refl;
       give = λ r n least most xs w.
-          gives-map _ silent (widen-gives (laws kind (r .0)) n (sum xs % q) xs (omega arith) (record { words = w; is = refl }))
+          gives-map _ silent (widen-gives (laws-of kind (r .0)) n (sum xs % q) xs (omega arith) (record { words = w; is = refl }))
           (λ ys a. record { opened = refl; words = a .words; recombined = a .kept });
     }
 

@@ -12,5 +12,8 @@ pub mod Convert
 pub mod Sample
 pub mod Widen
 pub mod Decompose
+pub mod Verdict
+pub mod Scalars
 pub mod Cases
 pub mod Worked
+pub mod WorkedVerdict

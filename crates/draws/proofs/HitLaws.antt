@@ -1,7 +1,7 @@
 -- A draw that is set anew to low bits that are not below its modulus is skipped, and then more words are used: so equal counts of words
 -- show that every number that was set is below the modulus. The words of draws below one modulus are counted by those that hit.
-use mathlib.Core.Path.{_≡_, refl, sym, ap, _∙_}
-use mathlib.Core.Bool.{Bool}
+use mathlib.Core.Path.{_≡_, refl, sym, ap, ap₂, subst, _∙_}
+use mathlib.Core.Bool.{Bool, true}
 use mathlib.Core.List.{List, [], _∷_, _++_}
 use Prim.Native.Nat.{ℕ, zero, suc, _+_, _-_, _≤_, _<_}
 use native.Mathlib.Nat.{le-of-suc-le-suc}
@@ -12,6 +12,7 @@ use lib.ListN.{length, getD, replicate}
 use lib.Dec.{ltb}
 use borrow.Author.Tests.{lt-ltb, le-ltb}
 use Rattle.numbers.specs.Tests.{pick}
+use Rattle.numbers.specs.Bits.{bitsOf}
 use Rattle.numbers.specs.Lists.{Words}
 use Rattle.tape.specs.declared.Cursor.{Cursor}
 use Rattle.tape.specs.Tape.{ran, lowBits}
@@ -191,3 +192,116 @@ set-below ms k M bs {tape} {t} {p} {ws = ws} {vs = vs} {us = us} {q = q} {r = r}
         let fewer : hits M t (b .mid .at) count < hits M tape (b .mid .at) count =
         hits-lt M tape t none-more (b .mid .at) count i (w .0) (omega (arith, w .1)) (omega (arith, miss, reads-hit k M (b .snd) i (last i m))) in
         absurd (omega (arith, before, now))
+
+-- a place that hits is counted
+hits-one : (M : ℕ) (t : List ℕ) (a f i : ℕ) → a ≤ i → i < a + f → hits-at M t i ≤ hits M t a f
+unfolding hits
+hits-one M t a zero i h l = absurd (omega arith)
+hits-one M t a (suc f) i h l = go (ℕ-discrete i a) (λ n. hits-one M t (suc a) f i (omega arith) (omega arith))
+  where
+    go : Dec (i ≡ a) → (¬ (i ≡ a) → hits-at M t i ≤ hits M t (suc a) f) → hits-at M t i ≤ hits-at M t a + hits M t (suc a) f
+    go (yes e) ih = rw e (omega arith)
+    go (no n) ih = omega (arith, ih n)
+
+-- words that agree from a on have the same hits there
+hits-agree : (M : ℕ) (s t : List ℕ) (a f : ℕ) → ((i : ℕ) → a ≤ i → getD s i 0 ≡ getD t i 0) → hits M s a f ≡ hits M t a f
+unfolding hits
+hits-agree M s t a zero same = refl
+hits-agree M s t a (suc f) same =
+    ap₂ _+_ (hits-same M s a t (same a (omega arith))) (hits-agree M s t (suc a) f (λ i h. same i (omega arith)))
+
+-- of a plan that ends with a draw below N and k draws below M, which have as many bits, the first of these is set anew to a number of L bits; if the
+-- plan is then read to the same place as before, that number is below N
+module _ (N k M : ℕ) (less : N ≤ M) (bits : bitsOf N ≡ bitsOf M) {tape t : List ℕ} {c s s1 : Cursor} {v v1 u : ℕ}
+    (a : Drawn N tape c v s) (b : Drawn N t c v1 s1) (others : (i : ℕ) → ¬ (i ≡ s .at - 1) → getD t i 0 ≡ getD tape i 0)
+    (low : lowBits N (getD t (s .at - 1) 0) ≡ u) (skips : N ≤ u) where
+  none-more-hit : (i : ℕ) → hits-at N t i ≤ hits-at N tape i
+  none-more-hit i = at (ℕ-discrete i (s .at - 1))
+    where
+      at : Dec (i ≡ s .at - 1) → hits-at N t i ≤ hits-at N tape i
+      at (yes e) = rw e (omega (arith, hits-no N t (s .at - 1) (omega arith)))
+      at (no n) = omega (arith, hits-same N t i tape (others i n))
+
+  -- the word is skipped, so the draw reads on
+  reads-on : s .at < s1 .at
+  reads-on = go (decLt (s .at) (s1 .at))
+    where
+      m : (c .at < s .at) × (s .at ≤ length tape)
+      m = drawn-moves a
+
+      m1 : (c .at < s1 .at) × (s1 .at ≤ length t)
+      m1 = drawn-moves b
+
+      -- no word up to there hits
+      none-hit : hits N t (c .at) (s .at - c .at) ≡ 0
+      none-hit =
+          let one : hits N tape (c .at) (s .at - c .at) ≡ 1 = drawn-hits a (s .at - c .at) (omega (arith, m, m1)) in
+          let hit-there : hits-at N tape (s .at - 1) ≡ 1 = hits-yes N tape (s .at - 1) (omega (arith, drawn-gave a, drawn-below a)) in
+          omega (arith, hits-lt N tape t none-more-hit (c .at) (s .at - c .at) (s .at - 1) (omega (arith, m, m1)) (omega (arith, m, m1)) (omega (arith, hits-no N t (s .at - 1) (omega arith))))
+
+      go : Dec (s .at < s1 .at) → s .at < s1 .at
+      go (yes l) = l
+      go (no n) =
+          let hit-there : hits-at N t (s1 .at - 1) ≡ 1 = hits-yes N t (s1 .at - 1) (omega (arith, drawn-gave b, drawn-below b)) in
+          absurd (omega (arith, none-hit, hits-one N t (c .at) (s .at - c .at) (s1 .at - 1) (omega (arith, m, m1)) (omega (arith, m, m1))))
+
+  -- and then the others, too, end further on
+  ends-further : {rs ws os vs : List ℕ} {q : Cursor} → Reads tape (replicate k M) s rs ws q → {r : Cursor} → Reads t (replicate k M) s1 os vs r → r .at ≡ q .at → ⊥
+  unfolding lowBits
+  ends-further {q = q} x {r} y e =
+      let m = reads-moves x in
+      let m1 = reads-moves y in
+      let o = reads-on in
+      let d : ℕ = s1 .at - s .at in
+      let f : ℕ = r .at - s1 .at in
+      let before : hits M tape (s .at) (q .at - s .at) ≡ k = reads-hits k M x (q .at - s .at) (omega arith) in
+      let now : hits M t (s1 .at) f ≡ k = reads-hits k M y f (omega arith) in
+      let same : hits M t (s .at) (q .at - s .at) ≡ hits M tape (s .at) (q .at - s .at) = hits-agree M t tape (s .at) (q .at - s .at) (λ i h. others i (omega (arith, drawn-moves a .0))) in
+      let there : s .at + d ≡ s1 .at = omega arith in
+      let whole : q .at - s .at ≡ d + f = omega arith in
+      let split : hits M t (s .at) (d + f) ≡ hits M t (s .at) d + hits M t (s1 .at) f = hits-split M t (s .at) d f ∙ ap (λ (j : ℕ). hits M t (s .at) d + hits M t j f) there in
+      let small : lowBits M (getD t (s1 .at - 1) 0) < M = rw (← bits) (omega (arith, drawn-gave b, drawn-below b)) in
+      let hit-there : hits-at M t (s1 .at - 1) ≡ 1 = hits-yes M t (s1 .at - 1) small in
+      omega (arith, hits-one M t (s .at) d (s1 .at - 1) (omega arith) (omega arith), rw whole at same, rw whole at before)
+
+pub set-first-below : (ms : List ℕ) (N k M : ℕ) → N ≤ M → bitsOf N ≡ bitsOf M → {tape t : List ℕ} {p : Cursor} {rs ws os vs : List ℕ} {u : ℕ} {q r : Cursor} →
+    Reads tape (ms ++ (N ∷ replicate k M)) p rs ws q → p .at ≤ length tape → SetAnew N tape (marked (marksAfter ms (true ∷ [])) ws) (u ∷ []) t →
+    Reads t (ms ++ (N ∷ replicate k M)) p os vs r → r .at ≡ q .at → u < N
+unfolding marked
+set-first-below ms N k M less bits {tape} {t} {p} {ws = ws} {vs = vs} {u = u} {q = q} {r = r} x h n y e = go (b .snd) (d .snd) (b .all)
+  where
+    b : ReadBoth tape ms (N ∷ replicate k M) p ws q
+    b = reads-split ms x
+
+    d : ReadBoth t ms (N ∷ replicate k M) p vs r
+    d = reads-split ms y
+
+    go : {os1 vs1 os2 vs2 : List ℕ} → Reads tape (N ∷ replicate k M) (b .mid) os1 vs1 q → Reads t (N ∷ replicate k M) (d .mid) os2 vs2 r → ws ≡ b .us ++ vs1 → u < N
+    go (one {s = s} {ws = rest} dr x1) (one {r = v1} {s = s1} dr1 y1) all = below (decLt u N)
+      where
+        place : marked (marksAfter ms (true ∷ [])) ws ≡ (s .at - 1) ∷ []
+        place = ap (marked (marksAfter ms (true ∷ []))) all ∙ marked-after ms (b .us) ((s .at - 1) ∷ rest) (true ∷ []) (reads-length (b .fst))
+
+        set : SetAnew N tape ((s .at - 1) ∷ []) (u ∷ []) t
+        set = subst (λ (l : List ℕ). SetAnew N tape l (u ∷ []) t) place n
+
+        here : (i : ℕ) → Among i ((s .at - 1) ∷ []) → i ≡ s .at - 1
+        here i (zero, l, f) = sym f
+        here i (suc a, l, f) = absurd (omega arith)
+
+        others : (i : ℕ) → ¬ (i ≡ s .at - 1) → getD t i 0 ≡ getD tape i 0
+        others i m = set .others i (λ a. m (here i a))
+
+        same : Same tape t (p .at) (b .mid .at)
+        same =
+            record {
+              reaches = omega (arith, set .size, reads-within-tape (b .fst) h);
+              words = λ i m l. sym (others i (omega (arith, drawn-moves dr .0)));
+            }
+
+        middle : d .mid ≡ b .mid
+        middle = sym (one-mid (reads-same (b .fst) same) (d .fst))
+
+        below : Dec (u < N) → u < N
+        below (yes l) = l
+        below (no m) = absurd (ends-further N k M less bits dr (subst (λ (c : Cursor). Drawn N t c v1 s1) middle dr1) others (set .low 0 (omega arith)) (omega arith) x1 y1 e)

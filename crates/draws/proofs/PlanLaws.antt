@@ -153,6 +153,11 @@ fits-split (M ∷ ms) (one-more {r = r} l x) =
     let b = fits-split ms x in
     record { fst = r ∷ b .fst; snd = b .snd; all = ap (r ∷_) (b .all); fit-fst = one-more l (b .fit-fst); fit-snd = b .fit-snd }
 
+-- and put together
+pub fits-both : {ms ns rs os : List ℕ} → Fits ms rs → Fits ns os → Fits (ms ++ ns) (rs ++ os)
+fits-both none-left g = g
+fits-both (one-more l f) g = one-more l (fits-both f g)
+
 -- k numbers below M are what k draws below M can give
 pub words-fit : (k M : ℕ) (rs : List ℕ) → Words k M rs → Fits (replicate k M) rs
 words-fit zero M [] w = none-left

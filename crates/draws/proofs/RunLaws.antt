@@ -1,7 +1,7 @@
 -- Laws of runs, proved once for every program.
 use mathlib.Core.Path.{_≡_, refl, sym, ap, _∙_, fun-ext}
 use mathlib.Core.List.{List}
-use Prim.Native.Nat.{ℕ, suc, _+_, _-_, _≤_, _<_}
+use Prim.Native.Nat.{ℕ, zero, suc, _+_, _-_, _≤_, _<_}
 use native.Mathlib.Numerals.{add-one}
 use native.Mathlib.Omega.{arith}
 use Rattle.tape.specs.declared.Cursor.{Cursor}
@@ -80,6 +80,15 @@ unfolding run
 draw-parts M k tape p e = next-ran (drawAt tape p M) (λ r s. run (k r) tape s) e
 
 -- ---- one turn after another
+-- the last of them
+pub turns-last : {A : Type 0} (f : ℕ → A → Draws A) (i k : ℕ) (a : A) → turns f i (suc k) a ≡ bind (turns f i k a) (f (i + k))
+unfolding turns bind
+turns-last f i zero a = let e : i + 0 ≡ i = omega arith in rw e (bind-done (f i a))
+turns-last f i (suc k) a =
+    let e : suc i + k ≡ i + suc k = omega arith in
+    ap (bind (f i a)) (fun-ext (λ b. turns-last f (suc i) k b ∙ ap (λ (j : ℕ). bind (turns f (suc i) k b) (f j)) e))
+    ∙ sym (bind-assoc (f i a) (λ b. turns f (suc i) k b) (f (i + suc k)))
+
 module _ {A : Type 0} (f : ℕ → A → Draws A) (i n : ℕ) (a : A) where
   pub each-none : n ≤ i → each f i n a ≡ done a
   unfolding each turns

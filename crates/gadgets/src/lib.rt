@@ -5,7 +5,9 @@ mod refreshes;
 mod shifts;
 
 pub use coefficients::Decomposed;
+pub use coefficients::Judged;
 pub use coefficients::decompose;
+pub use coefficients::verdict;
 pub use coefficients::widen;
 pub use conversions::to_arithmetic;
 pub use conversions::to_mod_q;

@@ -19,6 +19,7 @@ use Rattle.gate.specs.declared.Answer.{Answer}
 use Rattle.gate.specs.Told.{Told, refusal, Outcome, silent, openedRan, silentRan, ranTold, Call, checkNumber, told, standsFor}
 use Rattle.gate.specs.Gadget.{Gadget, silentSteps, silentGadget, closed, call, tells}
 use Rattle.gate.specs.Sampler.{Sampler, samplerCall, samples}
+use Rattle.gate.specs.Judge.{Judge, judgeChecks, judgeCall, judges}
 
 module _ (c : Call) (tape : List ℕ) where
   -- no check fails
@@ -105,6 +106,23 @@ module _ (g : Sampler) (n : ℕ) (tape out : List ℕ) where
   sampler-ran e f h =
       f ∙ ap (λ y. ranTold 0 (silentRan y) (g .short out)) h ∙ ap (λ y. ranTold 0 y (g .short out)) (sym (run-silent (g .steps n out) tape start))
       ∙ sym (tells-passed (samplerCall g n out) tape (sym e))
+
+-- so does a gadget that judges
+module _ (g : Judge) (shares tape : List ℕ) where
+  -- an output slice that is not there has the right length
+  pub judge-checks : firstFailing (checks shares (length shares) (g .inRange) (bound (g .input))) ≡ firstFailing (judgeChecks shares (g .inRange) (bound (g .input)))
+  unfolding firstFailing checks checksOf judgeChecks
+  judge-checks = rw (eq-eqb (length shares) (length shares) refl)
+
+  pub judge-refused : {k : ℕ} {t : Told} → k ≡ firstFailing (judgeChecks shares (g .inRange) (bound (g .input))) → (k ≡ 0 → ⊥) →
+      t ≡ refusal (g .fields) k [] → t ≡ judges g shares tape
+  unfolding judges checkNumber
+  judge-refused e n f = by-check (judgeCall g shares) tape e n f
+
+  pub judge-ran : {t : Told} {x : Ran Outcome} → firstFailing (judgeChecks shares (g .inRange) (bound (g .input))) ≡ 0 → t ≡ ranTold (g .fields) x [] →
+      x ≡ run (g .steps shares) tape start → t ≡ judges g shares tape
+  unfolding judges checkNumber
+  judge-ran e f h = f ∙ ap (λ y. ranTold (g .fields) y []) h ∙ sym (tells-passed (judgeCall g shares) tape e)
 
 -- steps that ran on the copied shares from the tape's start ran on the shares
 pub on-copy : (d : List ℕ → Draws (List ℕ)) {shares words : List ℕ} (tape : List ℕ) {room M : ℕ} {c : Cursor} {s : Shared} →

@@ -16,12 +16,13 @@ use Rattle.numbers.proofs.AlongLaws.{along-is, change-first, take-along, words-
 use Rattle.tape.specs.declared.Cursor.{Cursor}
 use Rattle.tape.specs.Tape.{Ran, ended, ran}
 use Rattle.draws.specs.Draws.{each, run}
-use Rattle.draws.proofs.RunLaws.{run-done, bind-ran, bind-ended, each-done, each-more, each-ended}
-use Rattle.shares.specs.Sharing.{arithmetic}
+use Rattle.draws.proofs.RunLaws.{run-done, bind-ran, bind-ended}
+use Rattle.shares.specs.Sharing.{arithmetic, negated}
 use Rattle.shares.specs.Refresh.{refresh}
 use Rattle.shares.specs.Arrays.{Held}
 use Rattle.shares.proofs.ArraysLaws.{held-of, held-set}
-use Rattle.halving.specs.Halving.{parity, negated, join, joinTurn, sharedParity}
+use Rattle.shares.proofs.LoopLaws.{Looping, looping-ended, looping-more}
+use Rattle.halving.specs.Halving.{parity, join, joinTurn, sharedParity}
 use Rattle.halving.specs.AtOnce.{signed, joined}
 
 -- ---- a parity joins
@@ -66,8 +67,7 @@ module _ (M p : ℕ) where
 -- ---- the loop: what is left to join gives the same as the whole
 pub record Joining (size n M : ℕ) (xs tape : List ℕ) (x : Ran (List ℕ)) (i : ℕ) (words : List ℕ) (p : Cursor) : Type 0 where
   pub first : 1 ≤ i
-  pub held : Held size n M words
-  pub same : run (each (joinTurn M (take n xs)) i n (take n words)) tape p ≡ x
+  pub left : Looping (joinTurn M (take n xs)) n size n M tape x i words p
 
 pub joining-start : (size n M : ℕ) (xs tape : List ℕ) (p : Cursor) → Held size n M xs →
     Joining size n M xs tape (run (sharedParity M (take n xs)) tape p) 1 (set (replicate size 0) 0 (parity (getD xs 0 0))) p
@@ -75,10 +75,13 @@ unfolding sharedParity
 joining-start size n M xs tape p h =
     record {
       first = omega arith;
-      held = held-set (held-of h (words-same (omega (arith, h .two)))) 0 (omega (arith, h .two));
-      same =
-          let e : length (take n xs) ≡ n = length-take-le n xs (omega (arith, h .most, h .all .size)) in
-          rw (e, getD-take n xs 0 0 (omega (arith, h .least))) (ap (λ (l : List ℕ). run (each (joinTurn M (take n xs)) 1 n l) tape p) (begins size n (h .most) (omega (arith, h .least))));
+      left =
+          record {
+            held = held-set (held-of h (words-same (omega (arith, h .two)))) 0 (omega (arith, h .two));
+            same =
+                let e : length (take n xs) ≡ n = length-take-le n xs (omega (arith, h .most, h .all .size)) in
+                rw (e, getD-take n xs 0 0 (omega (arith, h .least))) (ap (λ (l : List ℕ). run (each (joinTurn M (take n xs)) 1 n l) tape p) (begins size n (h .most) (omega (arith, h .least))));
+          };
     }
   where
     begins : (k m : ℕ) → m ≤ k → 0 < m → take m (set (replicate k 0) 0 (parity (getD xs 0 0))) ≡ parity (getD xs 0 0) ∷ replicate (m - 1) 0
@@ -86,29 +89,23 @@ joining-start size n M xs tape p h =
     begins zero (suc m) l q = absurd (omega arith)
     begins (suc k) (suc m) l q = let e : suc m - 1 ≡ m = omega arith in rw e (ap (parity (getD xs 0 0) ∷_) (take-replicate m k 0 (omega arith)))
 
-module _ {size n M : ℕ} {xs tape : List ℕ} {x : Ran (List ℕ)} {i : ℕ} {words : List ℕ} {p : Cursor} (a : Joining size n M xs tape x i words p) where
-  pub joining-done : n ≤ i → ran (take n words) p ≡ x
-  joining-done h = sym (each-done (joinTurn M (take n xs)) i n (take n words) tape p h) ∙ a .same
+module _ {size n M : ℕ} {xs tape : List ℕ} {x : Ran (List ℕ)} {i : ℕ} {words : List ℕ} {p : Cursor} (a : Joining size n M xs tape x i words p) (h : i < n) where
+  -- the tape has ended
+  pub joining-ended : run (refresh (arithmetic M) (take n words)) tape p ≡ ended → ended ≡ x
+  unfolding joinTurn
+  joining-ended e = looping-ended (a .left) h (bind-ended (refresh (arithmetic M) (take n words)) _ tape p e)
 
-  module _ (h : i < n) where
-    -- the tape has ended
-    pub joining-ended : run (refresh (arithmetic M) (take n words)) tape p ≡ ended → ended ≡ x
-    unfolding joinTurn
-    joining-ended e =
-        sym (each-ended (joinTurn M (take n xs)) i n (take n words) tape p h (bind-ended (refresh (arithmetic M) (take n words)) _ tape p e)) ∙ a .same
-
-    -- the refresh gave fresh words, and the parity of share i joins them
-    pub joining-more : {fresh others : List ℕ} {c : Cursor} → run (refresh (arithmetic M) (take n words)) tape p ≡ ran (take n fresh) c → Words size M fresh →
-        others ≡ join M (parity (getD xs i 0)) fresh → Joining size n M xs tape x (i + 1) others c
-    unfolding joinTurn
-    joining-more {fresh} {others} {c} e w f =
-        record {
-          first = omega arith;
-          held = held-of (a .held) (rw f (join-words M (parity (getD xs i 0)) (a .held .two) (omega arith) w));
-          same =
-              sym (each-more (joinTurn M (take n xs)) i n (take n words) tape p h (take n others) c
-              (bind-ran (refresh (arithmetic M) (take n words)) _ tape p (take n fresh) c e ∙ run-done _ tape c
-              ∙ ap (λ (l : List ℕ). ran l c) (ap (λ (y : ℕ). join M (parity y) (take n fresh)) (getD-take n xs i 0 h)
-              ∙ sym (ap (take n) f ∙ join-take M (parity (getD xs i 0)) n fresh))))
-              ∙ a .same;
-        }
+  -- the refresh gave fresh words, and the parity of share i joins them
+  pub joining-more : {fresh others : List ℕ} {c : Cursor} → run (refresh (arithmetic M) (take n words)) tape p ≡ ran (take n fresh) c → Words size M fresh →
+      others ≡ join M (parity (getD xs i 0)) fresh → Joining size n M xs tape x (i + 1) others c
+  unfolding joinTurn
+  joining-more {fresh} {others} {c} e w f =
+      record {
+        first = omega arith;
+        left =
+            looping-more (a .left) h
+            (bind-ran (refresh (arithmetic M) (take n words)) _ tape p (take n fresh) c e ∙ run-done _ tape c
+            ∙ ap (λ (l : List ℕ). ran l c) (ap (λ (y : ℕ). join M (parity y) (take n fresh)) (getD-take n xs i 0 h)
+            ∙ sym (ap (take n) f ∙ join-take M (parity (getD xs i 0)) n fresh)))
+            (rw f (join-words M (parity (getD xs i 0)) (a .left .held .two) (omega arith) w));
+      }

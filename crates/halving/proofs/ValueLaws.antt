@@ -20,11 +20,11 @@ use Rattle.numbers.proofs.SumLaws.{sum-zeros, sum-more, sum-back, sum-negated, 
 use Rattle.draws.specs.Draws.{turns, each}
 use Rattle.draws.proofs.Outcomes.{Gives}
 use Rattle.draws.proofs.PlanLaws.{gives-map, gives-turns}
-use Rattle.shares.specs.Sharing.{arithmetic}
+use Rattle.shares.specs.Sharing.{arithmetic, negated}
 use Rattle.shares.specs.Refresh.{refreshPlan}
 use Rattle.shares.proofs.SharingLaws.{Shares}
 use Rattle.shares.proofs.RefreshLaws.{refresh-keeps}
-use Rattle.halving.specs.Halving.{parity, negated, join, joinTurn, sharedParity, less, evened, halves, halving, halvingPlan}
+use Rattle.halving.specs.Halving.{parity, join, joinTurn, sharedParity, less, evened, halves, halving, halvingPlan}
 use Rattle.halving.specs.AtOnce.{signed}
 use Rattle.halving.proofs.ParityLaws.{signed-is, signed-words, join-signed, join-words}
 use Rattle.halving.proofs.EvenLaws.{evened-keeps, evened-even}

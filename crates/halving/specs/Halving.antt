@@ -4,20 +4,16 @@ use Prim.Native.Nat.{ℕ, _-_, _*_, _/_, _%_}
 use lib.ListN.{length, getD, replicate}
 use lib.Dec.{eqb}
 use Rattle.numbers.specs.Tests.{pick}
-use Rattle.numbers.specs.Modulo.{addMod, subMod, negMod}
+use Rattle.numbers.specs.Modulo.{addMod, subMod}
 use Rattle.numbers.specs.Lists.{change, along, over}
 use Rattle.draws.specs.Draws.{Draws, done, bind, each}
-use Rattle.shares.specs.Sharing.{arithmetic, move}
+use Rattle.shares.specs.Sharing.{arithmetic, negated, move}
 use Rattle.shares.specs.Refresh.{refresh}
 
 abbrev pub parity : ℕ → ℕ
 parity x = x % 2
 
--- all of A, whose shares are ps, negated
-unfoldable pub negated : ℕ → List ℕ → List ℕ
-negated M ps = along (λ i a. negMod M a) ps
-
--- a parity p joins A: if p = 1, all of A is negated; then p is added to A's first share
+-- a parity p joins A, whose shares are ps: if p = 1, all of A is negated; then p is added to A's first share
 unfoldable pub join : ℕ → ℕ → List ℕ → List ℕ
 join M p ps = change (λ a. addMod M a p) 0 (pick (eqb p 1) (negated M ps) ps)
 

@@ -1,17 +1,17 @@
 -- Laws of residues as signed numbers.
 use mathlib.Core.Path.{_≡_, sym, ap, subst, _∙_}
 use Prim.Native.Nat.{ℕ, zero, suc, _+_, _-_, _*_, _/_, _%_, _≤_, _<_}
-use native.Mathlib.Nat.{mod-eq-of-lt, mod-eq-sub-mod}
+use native.Mathlib.Nat.{mod-lt, mod-eq-of-lt, mod-eq-sub-mod}
 use native.Mathlib.Decide.{decLe}
 use native.Mathlib.Omega.{arith}
 use lib.Dec.{le→leb}
 use lib.IntN.{ℤ, pos, negsuc, negℤ, natAbs, _-ℤ_, -ℤ-one}
 use lib.Signed.{_≤ℤ_, leZ-yes}
 use borrow.Author.Tests.{lt-ltb, le-ltb, le-leb, lt-leb}
-use Rattle.numbers.specs.Modulo.{addMod, subMod}
-use Rattle.numbers.specs.Centred.{centred}
-use Rattle.numbers.proofs.Cong.{cong-by, cong-eq}
-use Rattle.numbers.proofs.GroupLaws.{sub-only}
+use Rattle.numbers.specs.Modulo.{addMod, subMod, negMod}
+use Rattle.numbers.specs.Centred.{centred, residue}
+use Rattle.numbers.proofs.Cong.{cong-by, cong-eq, cong-refl, cong-add, cong-mod, cong-sym, cong-cancel, via, _⨾_}
+use Rattle.numbers.proofs.GroupLaws.{sub-back, sub-only}
 
 -- a number less another
 pub less-over : (a b : ℕ) → b ≤ a → pos a -ℤ pos b ≡ pos (a - b)
@@ -105,3 +105,55 @@ module _ (M b x : ℕ) (l : x < M) (room : 2 * b < M) (h : natAbs (centred M x) 
 
   pub reach-is : pos (addMod M x b) -ℤ pos b ≡ centred M x
   reach-is = within .is
+
+-- ---- the residue of a signed number
+module _ (M : ℕ) (some : 0 < M) where
+  sub-small : (a b : ℕ) → subMod M a b < M
+  unfolding subMod
+  sub-small a b = mod-lt (a + (M - b % M)) some
+
+  pub residue-below : (z : ℤ) → residue M z < M
+  unfolding residue negMod
+  residue-below (pos v) = mod-lt v some
+  residue-below (negsuc v) = sub-small 0 (suc v)
+
+  -- of a number less another
+  pub residue-less : (z : ℤ) (a : ℕ) → residue M (z -ℤ pos a) ≡ subMod M (residue M z) a
+  unfolding residue negMod
+  residue-less (pos v) a = go (decLe a v)
+    where
+      go : Dec (a ≤ v) → residue M (pos v -ℤ pos a) ≡ subMod M (v % M) a
+      go (yes h) = rw (less-over v a h) (sub-only a (mod-lt (v - a) some) (cong-add cong-mod cong-refl ⨾ via v (cong-eq (omega arith)) (cong-sym cong-mod)))
+      go (no n) =
+          let e : suc (a - suc v) ≡ a - v = omega arith in
+          let r : ℕ = subMod M 0 (a - v) in
+          rw (less-under v a (omega arith), e)
+          (sub-only a (sub-small 0 (a - v)) (via (r + (a - v) + v) (cong-eq (omega arith)) (cong-add (sub-back M 0 (a - v) some) cong-refl ⨾ via v (cong-eq (omega arith)) (cong-sym cong-mod))))
+  residue-less (negsuc v) zero =
+      let e : suc v - suc 0 ≡ v = omega arith in
+      ap (residue M) (less-under 0 (suc v) (omega arith) ∙ ap negsuc e) ∙ sub-only 0 (sub-small 0 (suc v)) (cong-eq (omega arith))
+  residue-less (negsuc v) (suc b) =
+      let r : ℕ = subMod M 0 (suc (suc (v + b))) in
+      sub-only (suc b) (sub-small 0 (suc (suc (v + b))))
+      (cong-cancel (suc v)
+      (via (r + suc (suc (v + b))) (cong-eq (omega arith)) (sub-back M 0 (suc (suc (v + b))) some ⨾ cong-sym (sub-back M 0 (suc v) some))))
+
+  -- and of one with the other sign
+  pub residue-negated : (z : ℤ) → residue M (negℤ z) ≡ negMod M (residue M z)
+  unfolding residue negMod
+  residue-negated (pos zero) = sub-only (0 % M) (mod-lt 0 some) (via (0 + 0) (cong-add cong-mod cong-mod) (cong-eq (omega arith)))
+  residue-negated (pos (suc v)) = sub-only (suc v % M) (sub-small 0 (suc v)) (cong-add cong-refl cong-mod ⨾ sub-back M 0 (suc v) some)
+  residue-negated (negsuc v) =
+      let r : ℕ = subMod M 0 (suc v) in
+      sub-only r (mod-lt (suc v) some) (cong-add cong-mod cong-refl ⨾ via (r + suc v) (cong-eq (omega arith)) (sub-back M 0 (suc v) some))
+
+  -- a residue is that of the signed number that it means
+  pub residue-centred : (v : ℕ) → v < M → residue M (centred M v) ≡ v
+  unfolding centred residue
+  residue-centred v h = go (decLe v (M / 2))
+    where
+      go : Dec (v ≤ M / 2) → residue M (centred M v) ≡ v
+      go (yes k) = rw (le-leb v (M / 2) k) (mod-eq-of-lt h)
+      go (no n) =
+          rw (lt-leb v (M / 2) (omega arith))
+          (residue-less (pos v) M ∙ sym (sub-only M h (via v (cong-by 0 1 (omega arith)) (cong-sym cong-mod))))

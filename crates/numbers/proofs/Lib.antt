@@ -7,3 +7,4 @@ pub mod BitsLaws
 pub mod AlongLaws
 pub mod SumLaws
 pub mod CentredLaws
+pub mod PrimeLaws

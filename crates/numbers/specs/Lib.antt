@@ -3,3 +3,4 @@ pub mod Modulo
 pub mod Bits
 pub mod Lists
 pub mod Centred
+pub mod Prime

@@ -49,6 +49,9 @@ module _ {k : Bounds} (h : KindLaws k) where
   pub reach-below : k .b < q
   reach-below = omega (arith, h .quarter)
 
+  pub bound-below : k .a < q
+  bound-below = omega (arith, h .order, reach-below)
+
   -- a word has room for 2^(α+1+ρ)
   pub wraps-room : (n : ℕ) → n ≤ 8 → 2 ^ (alpha n + 1) * 2 ^ k .rho < 2 ^ 32
   wraps-room n most =

@@ -5,8 +5,9 @@ use Rattle.numbers.specs.Modulo.{q}
 use Rattle.params.specs.declared.Bounds.{Bounds}
 use Rattle.params.specs.declared.Params.{Params}
 
--- of the bounds of a kind: b − a < 2^ρ, and 4b ≤ q; ρ is at least 1, since a draw is below 2 or more, and 2^ρ·q is a word
+-- of the bounds of a kind: a ≤ b, b − a < 2^ρ, and 4b ≤ q; ρ is at least 1, since a draw is below 2 or more, and 2^ρ·q is a word
 pub record KindLaws (k : Bounds) : Type 0 where
+  pub order : k .a ≤ k .b
   pub past : k .b < k .a + 2 ^ k .rho
   pub quarter : 4 * k .b ≤ q
   pub least : 1 ≤ k .rho

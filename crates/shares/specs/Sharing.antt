@@ -1,8 +1,8 @@
 -- The two kinds of sharing (document 01, "What the library covers").
 use mathlib.Core.List.{List}
 use Prim.Native.Nat.{ℕ, _%_, _^_}
-use Rattle.numbers.specs.Modulo.{addMod, subMod, xor}
-use Rattle.numbers.specs.Lists.{sum, xorAll, change}
+use Rattle.numbers.specs.Modulo.{addMod, subMod, negMod, xor}
+use Rattle.numbers.specs.Lists.{sum, xorAll, change, along}
 
 -- an arithmetic sharing modulo M, or a Boolean one of width k
 pub data Sharing : Type 0 where
@@ -34,6 +34,10 @@ addToFirst s r xs = change (λ x. plus s x r) 0 xs
 
 unfoldable pub takeFromFirst : Sharing → ℕ → List ℕ → List ℕ
 takeFromFirst s r xs = change (λ x. minus s x r) 0 xs
+
+-- all shares of an arithmetic sharing negated
+unfoldable pub negated : ℕ → List ℕ → List ℕ
+negated M xs = along (λ i x. negMod M x) xs
 
 -- r taken from one share and added to another
 unfoldable pub move : Sharing → (from to : ℕ) → ℕ → List ℕ → List ℕ

@@ -1,8 +1,8 @@
-// Words below a modulus: sum, difference, negation, the remainder by q and by any modulus, and numbers of bits.
+// Words below a modulus: sum, difference, negation, the remainder by q and by any modulus, the product mod q, and numbers of bits.
 // Nothing here divides by a variable: some processors take longer for some operands.
 use params::Params;
 ghost use mathlib.Core.Path.{_≡_};
-ghost use Prim.Native.Nat.{_%_, _^_, _≤_, _<_};
+ghost use Prim.Native.Nat.{_*_, _%_, _^_, _≤_, _<_};
 ghost use Rattle.numbers.specs.Modulo.{q, addMod, subMod, negMod};
 ghost use Rattle.numbers.specs.Bits.{bitsOf, alpha};
 
@@ -34,6 +34,13 @@ pub fn reduce_q(x: u64) -> u32
     ensures { λ r. ⌜ r ≡ x % q ⌝ }
 {
     (x % (Params::Q as u64)) as u32
+}
+
+// The product of two words modulo q.
+pub fn mul_q(a: u32, b: u32) -> u32
+    ensures { λ r. ⌜ r ≡ a * b % q ⌝ }
+{
+    reduce_q(a as u64 * b as u64)
 }
 
 // The remainder, a binary digit at a time from the top, for a modulus that is not a constant: slow, but with no divide.

@@ -6,8 +6,9 @@ use lib.ListN.{take}
 use borrow.Author.Tests.{not-false}
 use Rattle.draws.specs.Draws.{run}
 use Rattle.shares.proofs.ArraysLaws.{gave, stopped, whole, cut-off}
+use Rattle.shares.proofs.LoopLaws.{looping-done}
 use Rattle.halving.specs.Halving.{sharedParity}
-use Rattle.halving.proofs.ParityLaws.{Joining, joining-start, joining-done, joining-ended, joining-more}
+use Rattle.halving.proofs.ParityLaws.{Joining, joining-start, joining-ended, joining-more}
 use Rattle.halving.proofs.parity.shared_parity.Statement.{statement}
 use Rattle.halving.proofs.parity.shared_parity.Tie as tie
 
@@ -24,7 +25,7 @@ loop-holds : tie.Need-loop-holds Inv-loop μ-loop
 loop-holds c = joining-start _ _ _ _ _ _ (c .before .pre)
 
 refresh-requires : tie.Need-refresh-requires Inv-loop μ-loop
-refresh-requires c κs = c .before .loop .inv .held
+refresh-requires c κs = c .before .loop .inv .left .held
 
 ended-requires : tie.Need-ended-requires Inv-loop μ-loop
 ended-requires c κs = search needs
@@ -43,7 +44,7 @@ array-read-join c = search needs
 join-requires : tie.Need-join-requires Inv-loop μ-loop
 join-requires c κs = let e = c .before in
     let r = e .before .before in
-    (r .refresh .ensures .below (not-false _ (e .if1 .left)), r .before .before .loop .inv .held .two, omega arith)
+    (r .refresh .ensures .below (not-false _ (e .if1 .left)), r .before .before .loop .inv .left .held .two, omega arith)
 
 add-i : tie.Need-add-i Inv-loop μ-loop
 add-i c = search needs
@@ -57,7 +58,7 @@ loop-again c = let e = c .before .before .before in
     joining-more (r .before .before .loop .inv) (r .before .loop-test .taken) (gave (r .refresh .ensures) (e .if1 .left)) (r .refresh .ensures .below (not-false _ (e .if1 .left))) (c .before .join .ensures)
 
 returns-2 : tie.Need-returns-2 Inv-loop μ-loop
-returns-2 c = let l = c .before .loop .inv in whole refl (l .held .all) (joining-done l (c .loop-test .left))
+returns-2 c = let l = c .before .loop .inv in whole refl (l .left .held .all) (looping-done (l .left) (c .loop-test .left))
 
 pub shared-parity-spec : {M : Type 1} → statement M
 shared-parity-spec =

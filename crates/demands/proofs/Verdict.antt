@@ -1,0 +1,68 @@
+-- The verdict meets the three demands, its answers are unique, and how many draws it makes.
+use mathlib.Core.Path.{_≡_, refl, sym, ap, _∙_}
+use mathlib.Core.List.{List, _++_}
+use Prim.Native.Nat.{ℕ, _+_, _-_, _*_, _/_, _^_, _<_}
+use native.Mathlib.Omega.{arith}
+use lib.ListN.{length, getD, length-append, length-replicate}
+use Rattle.numbers.specs.Modulo.{q}
+use Rattle.numbers.specs.Bits.{alpha}
+use Rattle.params.specs.Sets.{kindOf}
+use Rattle.shares.specs.Sharing.{arithmetic}
+use Rattle.shares.specs.Refresh.{refreshPlan}
+use Rattle.shift.specs.Shift.{shiftPlan}
+use Rattle.shift.proofs.FloorLaws.{shift-draws}
+use Rattle.gate.specs.Told.{Told}
+use Rattle.gate.specs.Judge.{judges}
+use Rattle.widening.specs.Widening.{widenPlan}
+use Rattle.product.specs.Product.{productPlan}
+use Rattle.verdict.specs.Verdict.{sidesPlan, frontPlan, scalesPlan, verdictPlan}
+use Rattle.verdict.proofs.ZeroLaws.{scales-length}
+use Rattle.coefficients.specs.declared.Judged.{Judged}
+use Rattle.coefficients.specs.Coefficients.{verdictGadget}
+use Rattle.coefficients.specs.Answers.{judgedStandsFor}
+use Rattle.demands.specs.Demands.{VerdictDemands}
+use Rattle.demands.specs.Unique.{UniqueAnswer}
+use Rattle.demands.proofs.VerdictSteps.{on-judged, no-room}
+use Rattle.demands.proofs.Scalars.{verdict-settings}
+use Rattle.demands.proofs.Refusals.{refusals}
+use Rattle.demands.proofs.Values.{values}
+
+pub verdict-demands : (set kind : ℕ) → VerdictDemands set kind
+verdict-demands set kind =
+    record {
+      refusals = λ shares tape. refusals (on-judged set kind shares) tape;
+      values = λ shares tape. values (on-judged set kind shares) tape;
+      settings = verdict-settings set kind;
+      no-2 = no-room set kind;
+    }
+
+-- its answer shows all that it stands for
+pub verdict-unique : (set kind : ℕ) (shares tape : List ℕ) → UniqueAnswer judgedStandsFor (judges (verdictGadget set kind) shares tape)
+unfolding judgedStandsFor
+verdict-unique set kind shares tape r s e h = ap answer (e ∙ sym h)
+  where
+    answer : Told → Judged
+    answer t = record { number = t .number; verdict = getD (t .opened) 0 0; opened = getD (t .opened) 1 0; used = t .used }
+
+-- (α + 1 + 2ρ)·d² + d + n·d/2 + n² draws a call, for d = n - 1
+pub verdict-call-draws : (set kind n : ℕ) → 0 < n →
+    length (verdictPlan (kindOf set kind) n) ≡ (alpha n + 1 + 2 * kindOf set kind .rho) * ((n - 1) * (n - 1)) + (n - 1) + n * (n - 1) / 2 + n * n
+unfolding verdictPlan frontPlan sidesPlan widenPlan refreshPlan productPlan
+verdict-call-draws set kind n few =
+    let ρ : ℕ = kindOf set kind .rho in
+    let d : ℕ = (n - 1) * (n - 1) in
+    let widened : length (widenPlan (kindOf set kind) n) ≡ (alpha n + 1) * d = shift-draws (2 ^ ρ) (alpha n + 1) n in
+    let side : length (shiftPlan q ρ n) ≡ ρ * d = shift-draws q ρ n in
+    rw (
+      length-append (frontPlan (kindOf set kind) n) (scalesPlan q n n),
+      length-append (widenPlan (kindOf set kind) n) (sidesPlan (kindOf set kind) n),
+      length-append (shiftPlan q ρ n) (shiftPlan q ρ n ++ (refreshPlan (arithmetic q) n ++ productPlan q n)),
+      length-append (shiftPlan q ρ n) (refreshPlan (arithmetic q) n ++ productPlan q n),
+      length-append (refreshPlan (arithmetic q) n) (productPlan q n),
+      widened,
+      side,
+      length-replicate (n - 1) q,
+      length-replicate (n * (n - 1) / 2) q,
+      scales-length few q n,
+    )
+    (omega arith)

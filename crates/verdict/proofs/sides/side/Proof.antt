@@ -1,0 +1,46 @@
+use borrow.Author.Needs.{needs}
+use Rattle.verdict.proofs.sides.side.Statement.{statement}
+use Rattle.verdict.proofs.sides.side.Tie as tie
+use mathlib.Core.Path.{_≡_, ap, _∙_}
+use Prim.Native.Nat.{_-_}
+use native.Mathlib.Omega.{arith}
+use lib.ListN.{take}
+use denote.Ref.{now}
+use Rattle.numbers.specs.Modulo.{q}
+use Rattle.params.proofs.RoomLaws.{rho-most}
+use Rattle.draws.specs.Draws.{run}
+use Rattle.shares.specs.Sharing.{arithmetic, takeFromFirst}
+use Rattle.shares.proofs.ArraysLaws.{given-as}
+use Rattle.shares.proofs.FirstLaws.{taken-take}
+use Rattle.shift.specs.Shift.{shift}
+use Rattle.widening.specs.Widening.{wide, widened}
+use Rattle.verdict.specs.Verdict.{side}
+use Rattle.verdict.proofs.StepLaws.{bound-wide, side-held}
+use mathlib.Core.Path.{_≡_, ap, _∙_}
+use Prim.Native.Nat.{_-_}
+use lib.ListN.{take}
+
+first : (c : tie.After-take-from-first) →
+    let a = c .before .before .before .args in
+    c .take-from-first .result ≡ takeFromFirst (widened (a .k)) (a .k .a) (a .shares)
+first c = let a = c .before .before .before .args in c .take-from-first .ensures ∙ ap (λ m. takeFromFirst (arithmetic m) (a .k .a) (a .shares)) (c .before .wide .ensures)
+
+wide-requires : tie.Need-wide-requires
+wide-requires c κs = search needs
+
+take-from-first-requires : tie.Need-take-from-first-requires
+take-from-first-requires c κs = let (l, a) = c .before .before .pre in rw (c .wide .ensures) (bound-wide l, a .all)
+
+shift-by-requires : tie.Need-shift-by-requires
+shift-by-requires c κs = let (l, a) = c .before .before .before .pre in (omega (arith, rho-most l), omega arith, l .word, rw (first c) (side-held l a))
+
+returns : tie.Need-returns
+unfolding side
+returns c = let f = c .before in
+    let s = f .before .before .before in
+    given-as (c .shift-by .ensures)
+    (ap (λ xs. run (shift q (s .args .k .rho) xs) (now (s .args .tape)) (s .args .cursor))
+    (ap (take (s .args .n)) (first f) ∙ taken-take (widened (s .args .k)) (s .args .k .a) (s .args .n) _ (omega (arith, s .pre .1 .least))))
+
+pub side-spec : {M : Type 1} → statement M
+side-spec = tie.close (tie.spec wide-requires take-from-first-requires shift-by-requires returns)

@@ -1,0 +1,44 @@
+// The verdict: whether the number in the shares is small enough, found without holding it. Both sides of it are multiplied, and only the product,
+// blinded by random scalars, is opened.
+mod sides;
+mod zero;
+
+use params::Bounds;
+use params::Params;
+use shares::Shared;
+use sides::sides;
+use tape::Cursor;
+use widening::widen;
+use zero::zero_test;
+ghost use lib.ListN.{take};
+ghost use Rattle.numbers.specs.Modulo.{q};
+ghost use Rattle.params.specs.Laws.{KindLaws};
+ghost use Rattle.draws.specs.Draws.{run};
+ghost use Rattle.shares.specs.Arrays.{Held, Gave};
+ghost use Rattle.verdict.specs.Verdict.{tested};
+
+// The shares that may be opened, their sum being zero just where the number is to be rejected. Who opens them has no others in hand.
+pub fn tested_shares(
+    shares: [u32; Params::MOST],
+    n: usize,
+    k: Bounds,
+    cursor: Cursor,
+    tape: &[u32],
+) -> Shared
+    requires { ⌜ KindLaws k × Held 8 n q shares ⌝ }
+    ensures { λ r. ⌜ Gave n q r (run (tested k (take n shares)) (now (tape .entry)) cursor) ⌝ }
+{
+    let widened = widen(shares, n, k, cursor, tape);
+    if !widened.ok {
+        return Shared::ended();
+    }
+    let x = widened.words;
+    let c = widened.cursor;
+    let product = sides(x, n, k, c, tape);
+    if !product.ok {
+        return Shared::ended();
+    }
+    let y = product.words;
+    let after = product.cursor;
+    zero_test(y, n, after, tape)
+}
