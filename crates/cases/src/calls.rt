@@ -22,7 +22,8 @@ pub fn name(gadget: u32) -> bool {
         7 => io::write_all(1, b"sample"),
         8 => io::write_all(1, b"sample_polynomial"),
         9 => io::write_all(1, b"widen"),
-        _ => io::write_all(1, b"decompose"),
+        10 => io::write_all(1, b"decompose"),
+        _ => io::write_all(1, b"verdict"),
     }
 }
 
@@ -34,7 +35,7 @@ pub fn call_sampler(gadget: u32, tape: &[u32], n: usize, set: u32, out: &mut [u3
     }
 }
 
-// Of the shares a sampler is given the count alone. Decompose is not here, since it answers more.
+// Of the shares a sampler is given the count alone. Decompose and the verdict are not here, since they answer more.
 pub fn call(gadget: u32, shares: &[u32], tape: &[u32], p: Pair, out: &mut [u32]) -> Answer {
     match gadget {
         1 => refresh(shares, tape, p.first, out),

@@ -47,7 +47,7 @@ fn polynomial_room(n: usize, r: u32) -> usize {
 }
 
 // Each word modulo m, if m is not 0.
-pub fn reduce(words: &mut [u32], m: u32) {
+fn reduce(words: &mut [u32], m: u32) {
     if m == 0 {
         return;
     }
@@ -82,7 +82,7 @@ fn without(gadget: u32, x: u32, share: u32, m: u32) -> u32 {
 }
 
 // The last share becomes what the others leave of the value.
-pub fn complete(gadget: u32, shares: &mut [u32], value: u32, m: u32) {
+fn complete(gadget: u32, shares: &mut [u32], value: u32, m: u32) {
     if shares.len() == 0 {
         return;
     }
@@ -92,6 +92,13 @@ pub fn complete(gadget: u32, shares: &mut [u32], value: u32, m: u32) {
         left = without(gadget, left, shares[i], m);
     }
     shares[last] = left;
+}
+
+// Shares of a residue modulo q, from the words after x. They recombine as those of gadget 10, by a sum.
+pub fn share(residue: u32, shares: &mut [u32], x: u32) {
+    fill(shares, x);
+    reduce(shares, 8380417);
+    complete(10, shares, residue, 8380417);
 }
 
 // In every third round the shares have a value that is aimed at.

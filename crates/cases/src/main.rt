@@ -10,6 +10,7 @@ mod rounds;
 mod sets;
 mod tally;
 mod tapes;
+mod verdicts;
 
 use parameters::Pair;
 use params::Params;
@@ -96,36 +97,84 @@ fn far_line(gadget: u32) {
     told(t);
 }
 
-fn parts_line(n: usize, residue: u32)
+// What a gadget answers on a residue in n shares.
+fn answered(gadget: u32, residue: u32, n: usize)
     requires { ⌜ n ≤ 8 ⌝ }
 {
-    let told = parts::decomposed(residue, n);
-    text(b"decompose");
-    number(tally::low(n));
-    number(residue);
-    number(told.number);
-    number(told.high);
-    number(told.low);
+    if gadget == 10 {
+        let told = parts::decomposed(residue, n);
+        numbers(&[told.number, told.high, told.low]);
+        return;
+    }
+    let told = verdicts::on_zeros(residue, n);
+    let used = tally::low(told.used);
+    numbers(&[told.number, told.verdict, told.opened, used]);
+}
+
+fn shared_line(gadget: u32, residue: u32, n: usize)
+    requires { ⌜ n ≤ 8 ⌝ }
+{
+    calls::name(gadget);
+    numbers(&[tally::low(n), residue]);
+    answered(gadget, residue, n);
     text(b"\n");
 }
 
-// Document 01's cases of Decompose, in shares.
-fn parts_by_hand() {
+fn shared_lines(gadget: u32, residues: &[u32], n: usize)
+    requires { ⌜ n ≤ 8 ⌝ }
+{
+    for i in 0..residues.len() {
+        shared_line(gadget, residues[i], n);
+    }
+}
+
+fn shared_by_hand(gadget: u32, residues: &[u32]) {
     for n in 2..9 {
-        parts_line(n, 95232);
-        parts_line(n, 95233);
-        parts_line(n, 8380416);
-        parts_line(n, 8285185);
-        parts_line(n, 8285184);
+        shared_lines(gadget, residues, n);
+    }
+}
+
+// Document 01's cases of Decompose, and those of the verdict: 130993 and 130994 of both signs, and 131150.
+fn in_shares() {
+    shared_by_hand(10, &[95232, 95233, 8380416, 8285185, 8285184]);
+    shared_by_hand(11, &[130993, 8249424, 130994, 8249423, 131150]);
+}
+
+// The verdicts on four sizes, of both signs.
+fn sizes(p: Pair, n: usize)
+    requires { ⌜ n ≤ 8 ⌝ }
+{
+    for i in 0..4 {
+        let size = verdicts::size(i, p);
+        number(verdicts::on_words(size, n, p));
+        number(verdicts::on_words(8380417 - size, n, p));
+    }
+}
+
+fn sizes_line(p: Pair, n: usize)
+    requires { ⌜ n ≤ 8 ⌝ }
+{
+    text(b"verdict");
+    numbers(&[p.first, p.second, tally::low(n)]);
+    sizes(p, n);
+    text(b"\n");
+}
+
+// For each set, for each kind, for 2 to 8 shares.
+fn all_sizes() {
+    for i in 0..42 {
+        let p = Pair::of(sets::known(i / 14), i / 7 % 2 + 1);
+        sizes_line(p, (i % 7 + 2) as usize);
     }
 }
 
 fn main() {
     by_hand();
-    for gadget in 1..11 {
+    for gadget in 1..12 {
         lines(gadget);
     }
     far_line(7);
     far_line(8);
-    parts_by_hand();
+    in_shares();
+    all_sizes();
 }

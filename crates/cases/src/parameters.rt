@@ -78,7 +78,7 @@ pub fn parameters(gadget: u32, r: u32, x: u32) -> Pair {
         3 => modulus_and_t(r, x),
         6 => Pair::of(mu(r, x), 0),
         7 | 8 => Pair::of(set(r, x), 0),
-        9 | 10 => set_and_kind(r, x),
+        9 | 10 | 11 => set_and_kind(r, x),
         _ => Pair::of(width(r, x), 0),
     }
 }
@@ -87,7 +87,7 @@ pub fn parameters(gadget: u32, r: u32, x: u32) -> Pair {
 pub fn bound(gadget: u32, a: u32) -> u32 {
     match gadget {
         1 | 3 => a,
-        9 | 10 => 8380417,
+        9 | 10 | 11 => 8380417,
         _ => power(a % 32),
     }
 }

@@ -1,6 +1,5 @@
 // Decompose, set 44, in shares.
-use super::inputs::complete;
-use super::inputs::reduce;
+use super::inputs::share;
 use super::tally::low;
 use gadgets::decompose;
 use trials::fill;
@@ -19,9 +18,7 @@ pub struct Parts {
 fn shared(residue: u32, shares: &mut [u32], out: &mut [u32]) -> Parts {
     let mut tape = [0u32; 4096];
     let x = fill(&mut tape, mix(mix(10, low(shares.len())), residue));
-    fill(shares, x);
-    reduce(shares, 8380417);
-    complete(10, shares, residue, 8380417);
+    share(residue, shares, x);
     let told = decompose(shares, &tape, 44, out);
     Parts {
         number: told.number,

@@ -1,7 +1,7 @@
 // Parameter sets and kinds, right and wrong.
 use super::parameters::Pair;
 
-fn known(i: u32) -> u32 {
+pub fn known(i: u32) -> u32 {
     match i % 3 {
         0 => 44,
         1 => 65,
@@ -56,7 +56,7 @@ fn astray(turn: u32) -> Pair {
     Pair::of(no_set(turn / 2), turn / 2 % 2 + 1)
 }
 
-// The set and the kind of widening and Decompose, which reads the set alone.
+// The set and the kind of widening, the verdict, and Decompose, which reads the set alone.
 pub fn set_and_kind(r: u32, x: u32) -> Pair {
     match r % 8 {
         6 => astray(r / 8),

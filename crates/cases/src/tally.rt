@@ -1,6 +1,7 @@
 // What is kept of the answers: how often each number came, and a checksum.
 use gadgets::Answer;
 use gadgets::Decomposed;
+use gadgets::Judged;
 use trials::mix;
 
 pub struct Tally {
@@ -40,20 +41,27 @@ pub fn counted(counts: [u32; 6], number: u32) -> [u32; 6] {
     next
 }
 
-// What an answer adds: `head` is the checksum with all that comes before the words used.
-fn kept(t: Tally, number: u32, head: u32, used: usize, out: &[u32]) -> Tally {
+// What an answer adds, with which the checksum is `sum`.
+fn kept(t: Tally, number: u32, used: usize, sum: u32) -> Tally {
     let before = t.counts;
     let counts = counted(before, number);
-    let sum = mix_all(mix(head, low(used)), out);
     Tally { counts, sum, used }
 }
 
 // An answer, and everything in the room for its output.
 pub fn noted(t: Tally, a: Answer, out: &[u32]) -> Tally {
-    kept(t, a.number, mix(t.sum, a.number), a.used, out)
+    let head = mix(mix(t.sum, a.number), low(a.used));
+    kept(t, a.number, a.used, mix_all(head, out))
 }
 
 // The same for Decompose, with the high part.
 pub fn noted_parts(t: Tally, d: Decomposed, out: &[u32]) -> Tally {
-    kept(t, d.number, mix(mix(t.sum, d.number), d.high), d.used, out)
+    let head = mix(mix(mix(t.sum, d.number), d.high), low(d.used));
+    kept(t, d.number, d.used, mix_all(head, out))
+}
+
+// The same for the verdict, which has no room for output.
+pub fn noted_verdict(t: Tally, j: Judged) -> Tally {
+    let head = mix(mix(mix(t.sum, j.number), j.verdict), j.opened);
+    kept(t, j.number, j.used, mix(head, low(j.used)))
 }

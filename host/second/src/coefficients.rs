@@ -3,12 +3,12 @@
 
 use crate::conversions::alpha;
 use crate::sets::{Kind, Set, Q};
-use crate::steps::{centred, refresh_sum, shift_by, value};
+use crate::steps::{centred, reduced, refresh_sum, shift_by, value};
 use crate::tape::{on_draws, Tape};
 
-/// What the draws of a call are below: those of `bits` halvings, the last of them from twice `modulus` to `modulus`, and those of a
+/// What the draws of some steps are below: those of `bits` halvings, the last of them from twice `modulus` to `modulus`, and those of a
 /// refresh modulo each of `refreshed`.
-fn limits(n: usize, modulus: u64, bits: u32, refreshed: &[u64]) -> Vec<u64> {
+pub fn limits(n: usize, modulus: u64, bits: u32, refreshed: &[u64]) -> Vec<u64> {
     let d = n - 1;
     let halvings = (1..=bits).rev().flat_map(|left| vec![modulus << left; d * d]);
     halvings.chain(refreshed.iter().flat_map(|&modulus| vec![modulus; d])).collect()
@@ -30,24 +30,23 @@ fn scaled(shares: &[u64], factor: u64, modulus: u64) -> Vec<u64> {
 }
 
 /// The sum of the words, which begin with b more, is too large by a multiple of q. The shift gives the factor; and the multiple is
-/// taken away together with b.
-fn widening_steps(kind: Kind, shares: &[u64], tape: &mut Tape) -> Option<Vec<u64>> {
+/// taken away together with b. The wide shares are not reduced yet.
+pub fn widened(kind: Kind, shares: &[u64], tape: &mut Tape) -> Option<Vec<i128>> {
     let bits = alpha(shares.len()) + 1;
     let words = moved(shares, kind.b as i64);
     let modulus = 1 << (bits + kind.rho);
     let over = shift_by(&scaled(&words, 1 << bits, modulus), modulus, bits, tape)?;
     let mut wide: Vec<i128> = words.iter().zip(over).map(|(&x, e)| i128::from(x) - i128::from(Q * e)).collect();
     wide[0] -= i128::from(kind.b);
-    let modulus = Q << kind.rho;
-    let reduced: Vec<u64> = wide.iter().map(|x| x.rem_euclid(i128::from(modulus)) as u64).collect();
-    refresh_sum(&reduced, modulus, tape)
+    Some(wide)
 }
 
 pub fn widen(kind: Kind, shares: &[u64], tape: &mut Tape) -> Option<Vec<u64>> {
     let (n, modulus) = (shares.len(), Q << kind.rho);
     let limits = limits(n, 1 << kind.rho, alpha(n) + 1, &[modulus]);
     assert_eq!(limits.len(), (alpha(n) as usize + 1) * (n - 1).pow(2) + n - 1);
-    let wide = on_draws(&tape.drawn(&limits)?, |tape| widening_steps(kind, shares, tape));
+    let steps = |tape: &mut Tape| refresh_sum(&reduced(&widened(kind, shares, tape)?, modulus), modulus, tape);
+    let wide = on_draws(&tape.drawn(&limits)?, steps);
     let size = centred(shares, Q);
     if size.unsigned_abs() <= kind.b {
         assert_eq!(centred(&wide, modulus), size);

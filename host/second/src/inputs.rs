@@ -2,10 +2,10 @@
 
 use crate::library::{self, Answer};
 use crate::parameters::{
-    decompose_edges, ends, modulus, modulus_and_t, narrow_width, power, set, set_and_kind, widening_edges, width, Aim,
-    Pair,
+    decompose_edges, ends, modulus, modulus_and_t, narrow_width, power, set, set_and_kind, verdict_edges,
+    widening_edges, width, Aim, Pair,
 };
-use crate::sets::Q;
+use crate::sets::{self, Q};
 
 pub struct Input {
     /// The share count; a sampler is told it, and has no shares.
@@ -34,6 +34,7 @@ pub struct Size {
 
 const SHORT: Size = Size { rounds: 600, tape: 4096, array: 10, room: short_room };
 const LONG: Size = Size { rounds: 48, tape: 140000, array: 2560, room: long_room };
+const NO_SLICE: Size = Size { array: 0, room: |_, _| 0, ..SHORT };
 
 pub struct Gadget {
     id: u32,
@@ -168,8 +169,31 @@ pub const DECOMPOSE: Gadget = Gadget {
     call: |input, tape| library::decompose(&input.shares, tape, input.parameters.0, input.room),
 };
 
-pub const GADGETS: [Gadget; 10] =
-    [REFRESH, REFRESH_BOOLEAN, SHIFT, TO_BOOLEAN, TO_ARITHMETIC, TO_MOD_Q, SAMPLE, SAMPLE_POLYNOMIAL, WIDEN, DECOMPOSE];
+pub const VERDICT: Gadget = Gadget {
+    id: 11,
+    name: "verdict",
+    size: NO_SLICE,
+    parameters: set_and_kind,
+    bound: |_| Q as u32,
+    shares: Shares::Arithmetic,
+    aim: verdict_edges,
+    cuts: verdict_cuts,
+    call: |input, tape| library::verdict(&input.shares, tape, input.parameters.0, input.parameters.1),
+};
+
+pub const GADGETS: [Gadget; 11] = [
+    REFRESH,
+    REFRESH_BOOLEAN,
+    SHIFT,
+    TO_BOOLEAN,
+    TO_ARITHMETIC,
+    TO_MOD_Q,
+    SAMPLE,
+    SAMPLE_POLYNOMIAL,
+    WIDEN,
+    DECOMPOSE,
+    VERDICT,
+];
 
 /// Document 01's cases by hand.
 pub fn by_hand() -> Vec<(Gadget, Input)> {
@@ -190,12 +214,41 @@ pub fn by_hand() -> Vec<(Gadget, Input)> {
 pub const DECOMPOSE_BY_HAND: [(u32, (u32, i64)); 5] =
     [(95232, (0, 95232)), (95233, (1, -95231)), (8380416, (0, -1)), (8285185, (0, -95232)), (8285184, (43, 95232))];
 
-/// Set 44, and n shares of the residue.
-pub fn shared(residue: u32, n: usize) -> Input {
-    let (tape, x) = DECOMPOSE.tape(n, residue);
+/// n shares of the residue, from the words after x.
+fn shares_of(residue: u32, n: usize, x: u32) -> Vec<u32> {
     let mut shares: Vec<u32> = words_after(x).take(n).map(|word| word % Q as u32).collect();
-    DECOMPOSE.complete(&mut shares, Q as u32, residue);
-    Input { n, shares, tape, parameters: (44, 0), room: n, array: n }
+    shares[n - 1] = left_of_sum(residue, &shares[..n - 1], Q as u32);
+    shares
+}
+
+/// Decompose, set 44, in n shares of the residue.
+pub fn decompose_shared(residue: u32, n: usize) -> Input {
+    let (tape, x) = DECOMPOSE.tape(n, residue);
+    Input { n, shares: shares_of(residue, n, x), tape, parameters: (44, 0), room: n, array: n }
+}
+
+/// Document 01's cases of the verdict: the number, and the verdict that the page gives it. They are run in shares.
+pub const VERDICT_BY_HAND: [(i64, u32); 5] = [(130993, 1), (-130993, 1), (130994, 0), (-130994, 0), (131150, 0)];
+
+/// The verdict, set 44, kind 1, in n shares of the residue, on a tape of zeros.
+pub fn verdict_on_zeros(residue: u32, n: usize) -> Input {
+    let shares = shares_of(residue, n, mix(mix(VERDICT.id, n as u32), residue));
+    Input { n, shares, tape: vec![0; VERDICT.size.tape], parameters: (44, 1), room: 0, array: 0 }
+}
+
+/// The numbers on both sides of the bound, the last within the reach, and those in the middle between.
+pub fn verdict_numbers(parameters: Pair) -> [i64; 8] {
+    let kind = sets::kind_of(parameters.0, parameters.1).expect("they are a set and a kind");
+    let (a, b) = (kind.a as i64, kind.b as i64);
+    let middle = (a + b) / 2;
+    [a - 1, 1 - a, a, -a, b, -b, middle, -middle]
+}
+
+/// The verdict in n shares of the residue.
+pub fn verdict_shared(parameters: Pair, residue: u32, n: usize) -> Input {
+    let seed = mix(mix(parameters.0, parameters.1), mix(n as u32, residue));
+    let (tape, x) = tape_after(seed, VERDICT.size.tape);
+    Input { n, shares: shares_of(residue, n, x), tape, parameters, room: 0, array: 0 }
 }
 
 /// A sampler's calls with a stated share count far above the largest. Some counts are 0 or 2 in 8, 16 or 32 bits, or have the
@@ -219,6 +272,13 @@ pub fn words_after(x: u32) -> impl Iterator<Item = u32> {
         Some(b ^ (b << 5))
     })
     .skip(1)
+}
+
+/// A tape, and the last of its words.
+fn tape_after(seed: u32, words: usize) -> (Vec<u32>, u32) {
+    let tape: Vec<u32> = words_after(seed).take(words).collect();
+    let x = tape[words - 1];
+    (tape, x)
 }
 
 fn short_room(n: usize, round: u32) -> usize {
@@ -246,6 +306,14 @@ fn first_cuts(n: usize, used: usize) -> Vec<usize> {
 /// Without the words of the closing refresh, and of the refresh before it, if none of them was skipped.
 fn last_cuts(n: usize, used: usize) -> Vec<usize> {
     vec![used - (n - 1), used - 2 * (n - 1), 0]
+}
+
+/// Without the words of the zero test's last refresh, of all of it, of the product before it, and of the refresh of the left side,
+/// if none of them was skipped.
+fn verdict_cuts(n: usize, used: usize) -> Vec<usize> {
+    let d = n - 1;
+    let before = used - n * n - n * d / 2;
+    vec![used - d, used - n * n, before, before - d, 0]
 }
 
 /// What the other shares leave of the value to the last one.
@@ -285,12 +353,9 @@ impl Gadget {
         shares
     }
 
-    /// A tape, and the last of its words.
+    /// A round's tape, and the last of its words.
     fn tape(&self, n: usize, round: u32) -> (Vec<u32>, u32) {
-        let seed = mix(mix(self.id, n as u32), round);
-        let tape: Vec<u32> = words_after(seed).take(self.size.tape).collect();
-        let x = tape[self.size.tape - 1];
-        (tape, x)
+        tape_after(mix(mix(self.id, n as u32), round), self.size.tape)
     }
 
     pub fn input(&self, n: usize, round: u32) -> Input {

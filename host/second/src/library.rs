@@ -6,12 +6,13 @@ use crate::sampling;
 use crate::sets::{self, Q};
 use crate::steps::{refresh_sum, refresh_xor, shift_by};
 use crate::tape::Tape;
+use crate::verdict;
 
-/// What a caller gets back. `high` is `None` where the gadget has no such field. `out` is what the output slice then holds, `None`
-/// where it stays unchanged.
+/// What a caller gets back. `fields` are those between the number and the words used: Decompose's high part, or the verdict and the
+/// opened number. `out` is what the output slice then holds, `None` where it stays unchanged.
 pub struct Answer {
     pub number: u32,
-    pub high: Option<u32>,
+    pub fields: Vec<u32>,
     pub used: usize,
     pub out: Option<Vec<u32>>,
 }
@@ -40,7 +41,7 @@ fn first(tests: &[(u32, bool)]) -> Option<u32> {
 
 /// The answer of a call: a refusal, number 5 if the steps met the tape's end, or their shares.
 fn answer(refused: Option<u32>, tape: &[u32], steps: impl FnOnce(&mut Tape) -> Option<Vec<u64>>) -> Answer {
-    let refuse = |number| Answer { number, high: None, used: 0, out: None };
+    let refuse = |number| Answer { number, fields: Vec::new(), used: 0, out: None };
     if let Some(number) = refused {
         return refuse(number);
     }
@@ -49,7 +50,7 @@ fn answer(refused: Option<u32>, tape: &[u32], steps: impl FnOnce(&mut Tape) -> O
         None => refuse(5),
         Some(words) => {
             let out = Some(words.iter().map(|&x| x as u32).collect());
-            Answer { number: 0, high: None, used: tape.used(), out }
+            Answer { number: 0, fields: Vec::new(), used: tape.used(), out }
         }
     }
 }
@@ -132,7 +133,7 @@ fn one_by_one(tape: &[u32], n: usize, set: u32) -> Vec<u32> {
 }
 
 pub fn widen(shares: &[u32], tape: &[u32], set: u32, kind: u32, room: usize) -> Answer {
-    let kind = sets::set(set).and_then(|set| set.kind(kind));
+    let kind = sets::kind_of(set, kind);
     let steps = |tape: &mut Tape| coefficients::widen(kind?, &wide(shares), tape);
     answer(refusal(shares, room, kind.map(|_| Q)), tape, steps)
 }
@@ -147,5 +148,19 @@ pub fn decompose(shares: &[u32], tape: &[u32], set: u32, room: usize) -> Answer 
         Some(low)
     };
     let told = answer(refusal(shares, room, set.map(|_| Q)), tape, steps);
-    Answer { high: Some(high), ..told }
+    Answer { fields: vec![high], ..told }
+}
+
+/// The same of the verdict and the opened number; there are no shares to write, so the room is always right.
+pub fn verdict(shares: &[u32], tape: &[u32], set: u32, kind: u32) -> Answer {
+    let kind = sets::kind_of(set, kind);
+    let mut fields = [0, 0];
+    let steps = |tape: &mut Tape| {
+        let (accepted, opened) = verdict::verdict(kind?, &wide(shares), tape)?;
+        fields = [u32::from(accepted), opened as u32];
+        Some(Vec::new())
+    };
+    let told = answer(refusal(shares, shares.len(), kind.map(|_| Q)), tape, steps);
+    assert_eq!(fields[0] == 0, fields[1] == 0);
+    Answer { fields: fields.to_vec(), ..told }
 }

@@ -12,9 +12,11 @@ mod sampling;
 mod sets;
 mod steps;
 mod tape;
+mod verdict;
 
 use inputs::{Gadget, Input};
 use library::Answer;
+use parameters::Pair;
 use tape::Tape;
 
 #[derive(Default)]
@@ -26,8 +28,8 @@ struct Tally {
 impl Tally {
     fn note(&mut self, answer: &Answer, slice: &[u32]) {
         self.counts[answer.number as usize] += 1;
-        let told = [Some(answer.number), answer.high, Some(answer.used as u32)];
-        self.sum = told.iter().flatten().chain(slice).fold(self.sum, |sum, &v| inputs::mix(sum, v));
+        let told = [&[answer.number], &answer.fields[..], &[answer.used as u32], slice].concat();
+        self.sum = told.into_iter().fold(self.sum, inputs::mix);
     }
 }
 
@@ -92,12 +94,40 @@ fn hand_line(gadget: &Gadget, input: &Input) {
 
 /// A case of Decompose in n shares. What is answered is what the page gives.
 fn parts_line(residue: u32, parts: (u32, i64), n: usize) {
-    let input = inputs::shared(residue, n);
+    let input = inputs::decompose_shared(residue, n);
     let answer = inputs::DECOMPOSE.call(&input, input.tape.len());
     let low: Vec<u64> = array_after(&answer, &input).iter().map(|&share| u64::from(share)).collect();
-    let high = answer.high.expect("Decompose answers a high part");
+    let high = answer.fields[0];
     assert_eq!((high, steps::centred(&low, sets::Q)), parts);
     println!("decompose {} {} {} {} {}", n, residue, answer.number, high, steps::value(&low, sets::Q));
+}
+
+/// The residue of a signed number.
+fn residue(number: i64) -> u32 {
+    number.rem_euclid(sets::Q as i64) as u32
+}
+
+/// A case of the verdict in n shares, on a tape of zeros. No word is skipped, so the words used are the draws that the page gives.
+fn verdict_line(number: i64, verdict: u32, n: usize) {
+    let residue = residue(number);
+    let input = inputs::verdict_on_zeros(residue, n);
+    let Answer { number, fields, used, .. } = inputs::VERDICT.call(&input, input.tape.len());
+    assert_eq!((number, fields[0]), (0, verdict));
+    assert!(n != 2 || used == 24);
+    assert!(n != 8 || used == 1079);
+    println!("verdict {n} {residue} {number} {} {used}", joined(&fields));
+}
+
+/// The verdicts on numbers from one side of the bound to the end of the reach, in n shares. It accepts below the bound.
+fn verdicts_line(parameters: Pair, n: usize) {
+    let verdicts = inputs::verdict_numbers(parameters).map(|number| {
+        let input = inputs::verdict_shared(parameters, residue(number), n);
+        let answer = inputs::VERDICT.call(&input, input.tape.len());
+        assert_eq!(answer.number, 0);
+        answer.fields[0]
+    });
+    assert_eq!(verdicts, [1, 1, 0, 0, 0, 0, 0, 0]);
+    println!("verdict {} {} {n} {}", parameters.0, parameters.1, joined(&verdicts));
 }
 
 fn cases() {
@@ -116,6 +146,18 @@ fn cases() {
     for n in 2..=8 {
         for (residue, parts) in inputs::DECOMPOSE_BY_HAND {
             parts_line(residue, parts, n);
+        }
+    }
+    for n in 2..=8 {
+        for (number, verdict) in inputs::VERDICT_BY_HAND {
+            verdict_line(number, verdict, n);
+        }
+    }
+    for set in [44, 65, 87] {
+        for kind in [1, 2] {
+            for n in 2..=8 {
+                verdicts_line((set, kind), n);
+            }
         }
     }
 }

@@ -84,11 +84,20 @@ fn set_of(aim: &Aim) -> sets::Set {
     sets::set(aim.parameters.0).or(sets::set(87)).expect("87 is a set")
 }
 
+fn kind_of(aim: &Aim) -> sets::Kind {
+    let set = set_of(aim);
+    set.kind(aim.parameters.1).or(set.kind(2)).expect("2 is a kind")
+}
+
 /// The reach, and the largest number.
 pub fn widening_edges(aim: &Aim) -> u32 {
-    let set = set_of(aim);
-    let kind = set.kind(aim.parameters.1).or(set.kind(2)).expect("2 is a kind");
-    edges(aim, kind.b, (Q - 1) / 2)
+    edges(aim, kind_of(aim).b, (Q - 1) / 2)
+}
+
+/// Both sides of the ends of what is accepted, of what is kept, and of the numbers; and 0.
+pub fn verdict_edges(aim: &Aim) -> u32 {
+    let (sets::Kind { a, b, .. }, half) = (kind_of(aim), Q / 2);
+    [0, a - 1, a, b, b + 1, half, half + 1, Q - a + 1, Q - a, Q - b, Q - b - 1][aim.turn % 11] as u32
 }
 
 /// Where the high part 0 ends, and where one does that x chooses.

@@ -10,24 +10,27 @@ pub struct Set {
     kinds: [Kind; 2],
 }
 
-/// The reach and the shift of the verdict.
+/// The bound, the reach and the shift of the verdict.
 #[derive(Clone, Copy)]
 pub struct Kind {
+    pub a: u64,
     pub b: u64,
     pub rho: u32,
 }
 
-const fn kind(b: u64, rho: u32) -> Kind {
-    Kind { b, rho }
+pub fn set(number: u32) -> Option<Set> {
+    let (gamma1, gamma2, mu, kinds) = match number {
+        44 => (131072, 95232, 18, [(130994, 131150, 8), (95154, 95232, 7)]),
+        65 => (524288, 261888, 20, [(524092, 524484, 9), (261692, 261888, 8)]),
+        87 => (524288, 261888, 20, [(524168, 524408, 8), (261768, 261888, 7)]),
+        _ => return None,
+    };
+    Some(Set { gamma1, gamma2, mu, kinds: kinds.map(|(a, b, rho)| Kind { a, b, rho }) })
 }
 
-pub fn set(number: u32) -> Option<Set> {
-    match number {
-        44 => Some(Set { gamma1: 131072, gamma2: 95232, mu: 18, kinds: [kind(131150, 8), kind(95232, 7)] }),
-        65 => Some(Set { gamma1: 524288, gamma2: 261888, mu: 20, kinds: [kind(524484, 9), kind(261888, 8)] }),
-        87 => Some(Set { gamma1: 524288, gamma2: 261888, mu: 20, kinds: [kind(524408, 8), kind(261888, 7)] }),
-        _ => None,
-    }
+/// The kind of a set, if both numbers are in range.
+pub fn kind_of(set_number: u32, kind_number: u32) -> Option<Kind> {
+    set(set_number)?.kind(kind_number)
 }
 
 impl Set {

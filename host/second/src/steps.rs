@@ -13,6 +13,11 @@ pub fn centred(shares: &[u64], modulus: u64) -> i64 {
     residue as i64 - if residue > modulus / 2 { modulus as i64 } else { 0 }
 }
 
+/// Each number modulo the modulus.
+pub fn reduced(numbers: &[i128], modulus: u64) -> Vec<u64> {
+    numbers.iter().map(|x| x.rem_euclid(i128::from(modulus)) as u64).collect()
+}
+
 /// All draws first; then each share but the last has its draw added, and the last has their sum taken away.
 pub fn refresh_sum(shares: &[u64], modulus: u64, tape: &mut Tape) -> Option<Vec<u64>> {
     let (last, others) = shares.split_last()?;
@@ -53,8 +58,8 @@ fn parity_of_sum(shares: &[u64], modulus: u64, tape: &mut Tape) -> Option<Vec<i1
 /// From shares below the modulus, which is even, to shares of half the value below half of it. The parities move all at once.
 pub fn halving(shares: &[u64], modulus: u64, tape: &mut Tape) -> Option<Vec<u64>> {
     let sums = parity_of_sum(shares, modulus, tape)?;
-    let reduced = |x: i128| x.rem_euclid(i128::from(modulus)) as u64;
-    let even: Vec<u64> = shares.iter().zip(sums).map(|(&x, a)| reduced(i128::from(x) - a)).collect();
+    let even: Vec<i128> = shares.iter().zip(sums).map(|(&x, a)| i128::from(x) - a).collect();
+    let even = reduced(&even, modulus);
     let (last, others) = even.split_last()?;
     let moved: u64 = others.iter().map(|x| x % 2).sum();
     let halves: Vec<u64> = others.iter().copied().chain([(last + moved) % modulus]).map(|x| x / 2).collect();

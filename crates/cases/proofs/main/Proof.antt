@@ -4,10 +4,10 @@ use Rattle.cases.proofs.main.Statement.{statement}
 use Rattle.cases.proofs.main.Tie as tie
 
 abbrev Inv-loop : tie.InvT-loop
-Inv-loop gadget₀ gadget = gadget ≤ 11
+Inv-loop gadget₀ gadget = gadget ≤ 12
 
 abbrev μ-loop : tie.MeasureT-loop
-μ-loop gadget₀ gadget = 11 - gadget
+μ-loop gadget₀ gadget = 12 - gadget
 
 by-hand-requires : tie.Need-by-hand-requires Inv-loop μ-loop
 by-hand-requires c κs = search needs
@@ -33,8 +33,11 @@ far-line-requires c κs = search needs
 far-line-requires-2 : tie.Need-far-line-requires-2 Inv-loop μ-loop
 far-line-requires-2 c κs = search needs
 
-parts-by-hand-requires : tie.Need-parts-by-hand-requires Inv-loop μ-loop
-parts-by-hand-requires c κs = search needs
+in-shares-requires : tie.Need-in-shares-requires Inv-loop μ-loop
+in-shares-requires c κs = search needs
+
+all-sizes-requires : tie.Need-all-sizes-requires Inv-loop μ-loop
+all-sizes-requires c κs = search needs
 
 returns : tie.Need-returns Inv-loop μ-loop
 returns c = search needs
@@ -53,5 +56,6 @@ main-spec =
     loop-again
     far-line-requires
     far-line-requires-2
-    parts-by-hand-requires
+    in-shares-requires
+    all-sizes-requires
     returns)
