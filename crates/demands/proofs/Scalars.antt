@@ -2,8 +2,8 @@
 use mathlib.Core.Path.{_≡_, refl, sym, ap, subst, _∙_}
 use mathlib.Core.Logic.{_≢_}
 use mathlib.Core.Bool.{true, false}
-use mathlib.Core.List.{List, [], _∷_, _++_}
-use Prim.Native.Nat.{ℕ, _-_, _*_, _%_, _^_, _≤_, _<_}
+use mathlib.Core.List.{List, [], _∷_}
+use Prim.Native.Nat.{ℕ, _-_, _%_, _<_}
 use native.Mathlib.Nat.{mod-lt}
 use native.Mathlib.Omega.{arith}
 use lib.Count.{leadingZeros}
@@ -37,7 +37,7 @@ use Rattle.verdict.proofs.ScalarLaws.{earlier, plan-last, is-last, one-last-sca
 use Rattle.coefficients.specs.Coefficients.{verdictGadget}
 use Rattle.demands.specs.Call.{Valid}
 use Rattle.demands.specs.Verdict.{meant, Within, verdictClaim}
-use Rattle.demands.specs.Scalars.{lastPlace, lastAnew, lastSpan, OneScalar, BothZero, Scalars, VerdictSettings}
+use Rattle.demands.specs.Scalars.{lastPlace, lastAnew, lastSpan, OneScalar, BothZero, VerdictSettings}
 use Rattle.demands.proofs.Answers.{laws-of}
 use Rattle.demands.proofs.Runs.{tells-success, Succeeded, succeeded, success}
 use Rattle.demands.proofs.VerdictSteps.{of-value, verdict-planned, on-judged}

@@ -22,7 +22,7 @@ use Rattle.gate.specs.Told.{Told, Outcome, refusal, checkNumber, told}
 use Rattle.gate.specs.Judge.{judgeChecks, judgeCall, judges}
 use Rattle.gate.proofs.CheckLaws.{number-most, below-most, below-words, words-below, below-fails, below-passes, all-passed}
 use Rattle.gate.proofs.GadgetLaws.{judge-checks}
-use Rattle.verdict.specs.Verdict.{verdictOf, judged, verdict, verdictPlan}
+use Rattle.verdict.specs.Verdict.{verdictOf, verdict, verdictPlan}
 use Rattle.verdict.specs.Plain.{openedOf}
 use Rattle.verdict.proofs.ValueLaws as Value
 use Rattle.coefficients.specs.Coefficients.{kindRange, verdictGadget}

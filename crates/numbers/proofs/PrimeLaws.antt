@@ -3,7 +3,7 @@ use mathlib.Core.Path.{_≡_, sym, ap, _∙_}
 use mathlib.Core.Logic.{_≢_, _⊎_, inl, inr}
 use mathlib.Core.Bool.{Bool, true, false}
 use Prim.Native.Nat.{ℕ, zero, suc, _+_, _-_, _*_, _/_, _%_, _≤_, _<_}
-use native.Mathlib.Nat.{div-add-mod', mod-lt, mod-eq-of-lt, mul-mod-right, zero-mod, div-le-self, eq-or-lt-of-le, lt-of-mul-lt-mul-right, lt-of-mul-lt-mul-left, mul-le-mul-left}
+use native.Mathlib.Nat.{div-add-mod', mod-lt, mod-eq-of-lt, mul-mod-right, zero-mod, zero-mul, mul-zero, div-le-self, eq-or-lt-of-le, lt-of-mul-lt-mul-right, lt-of-mul-lt-mul-left, mul-le-mul-left}
 use native.Mathlib.Decide.{ℕ-discrete, decLt}
 use native.Mathlib.Omega.{arith}
 use lib.Dec.{T, eqb, lit<}
@@ -15,6 +15,11 @@ use Rattle.numbers.proofs.Cong.{Cong, cong-by, cong-eq, cong-mod, cong-
 descend : (p a t w r s : ℕ) → t * a + r ≡ p → w + t ≡ p → Cong p (r * s) 1 → Cong p (a * (w * s)) 1
 descend p a t w r s e f c =
     via (r * s) (cong-by s (a * s) (omega (arith, ap (λ (z : ℕ). a * z * s) f, ap (λ (z : ℕ). z * s) e))) c
+
+-- a product is zero where a factor is, modulo any number
+pub zero-product : (p a b : ℕ) → (a % p ≡ 0) ⊎ (b % p ≡ 0) → (a * b) % p ≡ 0
+zero-product p a b (inl e) = cong-mul {b = 0} {d = b} (record { eq = e ∙ sym (zero-mod p) }) cong-refl .eq ∙ ap (λ (x : ℕ). x % p) (zero-mul b) ∙ zero-mod p
+zero-product p a b (inr e) = cong-mul {b = a} {d = 0} cong-refl (record { eq = e ∙ sym (zero-mod p) }) .eq ∙ ap (λ (x : ℕ). x % p) (mul-zero a) ∙ zero-mod p
 
 module _ {p : ℕ} (prime : Prime p) where
   -- an inverse of a, for 0 < a < p: by that of p mod a, which is less
@@ -43,7 +48,7 @@ module _ {p : ℕ} (prime : Prime p) where
       let one : (x : ℕ) → Cong p (s * (a * x)) x = λ x. via (a * s * x) (cong-eq (omega arith)) (cong-mul i cong-refl ⨾ cong-eq (omega arith)) in
       cong-sym (one b) ⨾ cong-mul (cong-refl {a = s}) e ⨾ one c
 
-  -- a product is zero only where a factor is
+  -- a product is zero only where a factor is (and there it is: `zero-product`)
   pub zero-factor : (a b : ℕ) → (a * b) % p ≡ 0 → (a % p ≡ 0) ⊎ (b % p ≡ 0)
   zero-factor a b e = go (ℕ-discrete (a % p) 0)
     where

@@ -1,16 +1,16 @@
 -- Laws of the product, as the code goes through it.
-use mathlib.Core.Path.{_≡_, refl, sym, ap, ap₂, _∙_}
+use mathlib.Core.Path.{_≡_, sym, ap, ap₂, _∙_}
 use mathlib.Core.List.{List}
-use Prim.Native.Nat.{ℕ, _+_, _-_, _*_, _%_, _^_, _≤_, _<_}
+use Prim.Native.Nat.{ℕ, _+_, _-_, _*_, _%_, _≤_, _<_}
 use native.Mathlib.Nat.{mod-lt, mod-eq-of-lt, mul-le-mul-left, mul-le-mul-right, le-of-lt}
 use native.Mathlib.Omega.{arith}
 use lib.ListN.{length, getD, take, set}
 use lib.Seq.{length-take-le, getD-take}
 use Rattle.numbers.specs.Modulo.{q, addMod, subMod}
 use Rattle.numbers.specs.Lists.{Words, change}
-use Rattle.numbers.proofs.AlongLaws.{along-is, along-at, length-along, words-along, take-along}
+use Rattle.numbers.proofs.AlongLaws.{along-at, length-along, take-along}
 use Rattle.numbers.proofs.GroupLaws.{sums}
-use Rattle.numbers.proofs.WordsLaws.{words-at, words-change, take-change, change-here, change-other, length-change}
+use Rattle.numbers.proofs.WordsLaws.{words-at, words-change, take-change}
 use Rattle.tape.specs.declared.Cursor.{Cursor}
 use Rattle.tape.specs.declared.Draw.{Draw}
 use Rattle.tape.specs.declared.Draw.the-variants.{Got, Ended}

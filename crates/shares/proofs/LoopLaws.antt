@@ -1,5 +1,5 @@
 -- A loop of turns on n shares in an array, as the code goes through it.
-use mathlib.Core.Path.{_≡_, refl, sym, _∙_}
+use mathlib.Core.Path.{_≡_, sym, _∙_}
 use mathlib.Core.List.{List}
 use Prim.Native.Nat.{ℕ, _+_, _≤_, _<_}
 use lib.ListN.{take}
@@ -15,10 +15,6 @@ use Rattle.shares.proofs.ArraysLaws.{held-of}
 pub record Looping (f : ℕ → List ℕ → Draws (List ℕ)) (top size n M : ℕ) (tape : List ℕ) (x : Ran (List ℕ)) (i : ℕ) (words : List ℕ) (p : Cursor) : Type 0 where
   pub held : Held size n M words
   pub same : run (each f i top (take n words)) tape p ≡ x
-
-pub looping-start : (f : ℕ → List ℕ → Draws (List ℕ)) (top i : ℕ) {size n M : ℕ} {words : List ℕ} (tape : List ℕ) (p : Cursor) → Held size n M words →
-    Looping f top size n M tape (run (each f i top (take n words)) tape p) i words p
-looping-start f top i tape p h = record { held = h; same = refl }
 
 module _ {f : ℕ → List ℕ → Draws (List ℕ)} {top size n M : ℕ} {tape : List ℕ} {x : Ran (List ℕ)} {i : ℕ} {words : List ℕ} {p : Cursor}
     (a : Looping f top size n M tape x i words p) where

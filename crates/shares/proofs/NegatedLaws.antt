@@ -4,7 +4,7 @@ use mathlib.Core.List.{List}
 use Prim.Native.Nat.{ℕ, _%_, _<_}
 use native.Mathlib.Nat.{mod-lt}
 use lib.ListN.{take}
-use Rattle.numbers.specs.Modulo.{subMod, negMod}
+use Rattle.numbers.specs.Modulo.{negMod}
 use Rattle.numbers.specs.Lists.{Words, sum}
 use Rattle.numbers.proofs.Cong.{cong-add, cong-eq, cong-mod, via, _⨾_}
 use Rattle.numbers.proofs.GroupLaws.{sub-only, sums}

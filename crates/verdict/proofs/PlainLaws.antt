@@ -4,19 +4,19 @@ use mathlib.Core.Path.{_≡_, refl, sym, ap, subst, _∙_}
 use mathlib.Core.Logic.{_≢_, _⊎_, inl, inr}
 use mathlib.Core.Bool.{true, false}
 use Prim.Native.Nat.{ℕ, zero, suc, _+_, _-_, _*_, _/_, _%_, _^_, _≤_, _<_}
-use native.Mathlib.Nat.{zero-mod, zero-mul, mul-zero, mod-eq-of-lt, div-eq-of-lt, le-div-iff-mul-le, div-lt-iff-lt-mul, mul-comm, mul-le-mul-right}
-use native.Mathlib.Decide.{decLe, decLt}
+use native.Mathlib.Nat.{zero-mod, mod-eq-of-lt, div-eq-of-lt, le-div-iff-mul-le, div-lt-iff-lt-mul, mul-comm, mul-le-mul-right}
+use native.Mathlib.Decide.{decLe}
 use native.Mathlib.Omega.{arith}
 use lib.Pow.{pow-pos, pow-mono}
 use lib.Dec.{leb→le, le→leb}
 use lib.IntN.{ℤ, pos, negsuc, natAbs, negℤ, _-ℤ_}
 use lib.Signed.{_≤ℤ_, leZ-yes}
 use borrow.Author.Tests.{ltb-true, ltb-false}
-use Rattle.numbers.specs.Modulo.{q, subMod, negMod}
+use Rattle.numbers.specs.Modulo.{q, negMod}
 use Rattle.numbers.specs.Centred.{residue}
 use Rattle.numbers.proofs.Cong.{cong-by, cong-eq}
 use Rattle.numbers.proofs.GroupLaws.{sub-only}
-use Rattle.numbers.proofs.PrimeLaws.{q-prime, zero-factor}
+use Rattle.numbers.proofs.PrimeLaws.{q-prime, zero-factor, zero-product}
 use Rattle.numbers.proofs.CentredLaws.{less-over, less-under, residue-below, residue-less}
 use Rattle.params.specs.declared.Bounds.{Bounds}
 use Rattle.params.specs.Laws.{KindLaws}
@@ -48,10 +48,6 @@ below-zero M c some most = sym (sub-only c (omega arith) (cong-by 0 1 (omega ari
 module _ {k : Bounds} (h : KindLaws k) where
   T : ℕ
   T = 2 ^ k .rho
-
-  T-least : 2 ≤ T
-  unfolding T
-  T-least = wraps-least h
 
   -- there is room for a, b and 2^ρ in 2^ρ·q
   room : k .a + k .b + T ≤ wide k
@@ -126,8 +122,8 @@ module _ {k : Bounds} (h : KindLaws k) where
     rejected-zero e = go (from-either z (ltb-false (natAbs z) (k .a) e))
       where
         go : (pos (k .a) ≤ℤ z) ⊎ (pos (k .a) ≤ℤ negℤ z) → (leftOf k z * rightOf k z) % q ≡ 0
-        go (inl l) = rw (left-zero .1 l) (ap (λ (x : ℕ). x % q) (zero-mul (rightOf k z)) ∙ zero-mod q)
-        go (inr l) = rw (right-zero .1 l) (ap (λ (x : ℕ). x % q) (mul-zero (leftOf k z)) ∙ zero-mod q)
+        go (inl l) = zero-product q (leftOf k z) (rightOf k z) (inl (ap (λ (x : ℕ). x % q) (left-zero .1 l) ∙ zero-mod q))
+        go (inr l) = zero-product q (leftOf k z) (rightOf k z) (inr (ap (λ (x : ℕ). x % q) (right-zero .1 l) ∙ zero-mod q))
 
     -- and nowhere else, since q is prime
     pub accepted-not-zero : accepted k z ≡ true → (leftOf k z * rightOf k z) % q ≢ 0

@@ -1,10 +1,10 @@
 -- The last scalar set anew: the verdict's other draws stay, and exactly one last scalar leads from a number that is accepted to any number that is not
 -- zero.
-use mathlib.Core.Path.{_≡_, refl, sym, ap, ap₂, subst, _∙_}
+use mathlib.Core.Path.{_≡_, refl, sym, ap, subst, _∙_}
 use mathlib.Core.Logic.{_≢_}
 use mathlib.Core.Bool.{true}
 use mathlib.Core.List.{List, [], _∷_, _++_, append-assoc}
-use Prim.Native.Nat.{ℕ, suc, _+_, _-_, _*_, _%_, _≤_, _<_}
+use Prim.Native.Nat.{ℕ, suc, _+_, _-_, _*_, _%_, _<_}
 use native.Mathlib.Omega.{arith}
 use lib.ListN.{length, drop, replicate}
 use lib.Seq.{drop-append-seam}
@@ -14,11 +14,10 @@ use Rattle.numbers.specs.Lists.{Words}
 use Rattle.numbers.proofs.WordsLaws.{words-none, words-head, words-cons}
 use Rattle.numbers.proofs.PrimeLaws.{q-prime, no-zero, OneFactor, one-factor}
 use Rattle.params.specs.declared.Bounds.{Bounds}
-use Rattle.draws.specs.Anew.{marked, marksAfter, ExactlyOne}
-use Rattle.draws.proofs.Outcomes.{Fits, one-more, merged, Marks}
+use Rattle.draws.specs.Anew.{marked, ExactlyOne}
+use Rattle.draws.proofs.Outcomes.{Fits, merged, Marks}
 use Rattle.draws.proofs.PlanLaws.{fits-split, fits-both, FitBoth, fits-length}
 use Rattle.draws.proofs.MarksLaws.{marked-after, merged-after}
-use Rattle.shares.specs.Sharing.{arithmetic}
 use Rattle.shares.specs.Refresh.{refreshPlan}
 use Rattle.verdict.specs.Verdict.{frontPlan, scalePlan, scalesPlan, verdictPlan}
 use Rattle.verdict.specs.Plain.{leftOf, rightOf, scalarsOf, openedOf}

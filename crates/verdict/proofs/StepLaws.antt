@@ -1,10 +1,10 @@
 -- Laws of the verdict, as the code goes through it: where the tape ends, and what it gives.
 use mathlib.Core.Path.{_≡_, refl, sym, ap, _∙_}
 use mathlib.Core.List.{List}
-use Prim.Native.Nat.{ℕ, _+_, _-_, _*_, _%_, _^_, _≤_, _<_}
+use Prim.Native.Nat.{ℕ, _+_, _-_, _*_, _<_}
 use native.Mathlib.Nat.{mod-lt}
 use native.Mathlib.Omega.{arith}
-use lib.ListN.{length, take}
+use lib.ListN.{take}
 use lib.Seq.{length-take-le}
 use Rattle.numbers.specs.Modulo.{q}
 use Rattle.numbers.specs.Lists.{Words}
@@ -25,7 +25,7 @@ use Rattle.shares.specs.Sharing.{arithmetic, takeFromFirst, negated}
 use Rattle.shares.specs.Refresh.{refresh}
 use Rattle.shares.specs.Arrays.{Held}
 use Rattle.shares.proofs.ArraysLaws.{held-of}
-use Rattle.shares.proofs.FirstLaws.{taken-take, taken-words}
+use Rattle.shares.proofs.FirstLaws.{taken-words}
 use Rattle.shares.proofs.LoopLaws.{Looping, looping-ended, looping-more}
 use Rattle.widening.specs.Widening.{wide, widened, widen}
 use Rattle.widening.proofs.StepLaws.{wide-least}

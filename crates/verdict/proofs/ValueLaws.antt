@@ -1,23 +1,23 @@
 -- What the verdict opens of shares of a number within the reach: the product of its two sides and of the scalars; so it accepts exactly where the
 -- size is below the bound. Over any n and any bounds that have their laws, whatever the draws.
 use mathlib.Core.Path.{_≡_, refl, sym, ap, ap₂, subst, _∙_}
-use mathlib.Core.Logic.{_≢_}
+use mathlib.Core.Logic.{_≢_, inl}
 use mathlib.Core.Bool.{Bool, true, false}
-use mathlib.Core.List.{List, _++_}
-use Prim.Native.Nat.{ℕ, _+_, _*_, _/_, _%_, _^_, _≤_, _<_}
-use native.Mathlib.Nat.{mod-lt, zero-mod, zero-mul}
+use mathlib.Core.List.{List}
+use Prim.Native.Nat.{ℕ, _*_, _%_, _≤_, _<_}
+use native.Mathlib.Nat.{mod-lt}
 use native.Mathlib.Omega.{arith}
 use lib.ListN.{length, drop}
 use lib.Seq.{drop-append-seam}
-use lib.IntN.{ℤ, pos, natAbs, negℤ, _-ℤ_}
+use lib.IntN.{ℤ, natAbs, negℤ}
 use borrow.Author.Tests.{eq-eqb, ne-eqb}
 use Rattle.numbers.specs.Tests.{pick}
-use Rattle.numbers.specs.Modulo.{q, subMod, negMod}
+use Rattle.numbers.specs.Modulo.{q}
 use Rattle.numbers.specs.Lists.{Words, sum}
 use Rattle.numbers.specs.Centred.{centred, residue}
-use Rattle.numbers.proofs.Cong.{Cong, cong-mod, cong-mul, cong-refl, cong-eq, _⨾_}
+use Rattle.numbers.proofs.Cong.{Cong, cong-mod, cong-mul, cong-refl}
 use Rattle.numbers.proofs.CentredLaws.{residue-less, residue-negated, residue-centred}
-use Rattle.numbers.proofs.PrimeLaws.{q-prime, no-zero}
+use Rattle.numbers.proofs.PrimeLaws.{q-prime, zero-product, no-zero}
 use Rattle.params.specs.declared.Bounds.{Bounds}
 use Rattle.params.specs.Laws.{KindLaws}
 use Rattle.draws.specs.Draws.{Draws, done, bind}
@@ -25,7 +25,6 @@ use Rattle.draws.proofs.Outcomes.{Gives, feed, Fits}
 use Rattle.draws.proofs.PlanLaws.{gives-bind, gives-map, gives-as, always-feed, feed-bind, feed-map, fits-split, FitBoth, fits-length}
 use Rattle.draws.proofs.RunLaws.{bind-assoc}
 use Rattle.shares.specs.Sharing.{arithmetic, value, takeFromFirst, negated}
-use Rattle.shares.specs.Refresh.{refresh, refreshPlan}
 use Rattle.shares.proofs.SharingLaws.{Shares, value-below}
 use Rattle.shares.proofs.FirstLaws.{taken-first}
 use Rattle.shares.proofs.NegatedLaws.{negated-value}
@@ -33,10 +32,10 @@ use Rattle.shares.proofs.RefreshLaws.{refresh-keeps}
 use Rattle.shift.specs.Shift.{shiftPlan}
 use Rattle.shift.proofs.FloorLaws.{shift-floor}
 use Rattle.gate.specs.Told.{Outcome}
-use Rattle.widening.specs.Widening.{wide, widened, widen, widenPlan}
+use Rattle.widening.specs.Widening.{wide, widened, widen}
 use Rattle.widening.proofs.StepLaws.{wide-two}
-use Rattle.widening.proofs.ValueLaws.{Widened, widen-gives}
-use Rattle.product.specs.Product.{product, productPlan}
+use Rattle.widening.proofs.ValueLaws.{widen-gives}
+use Rattle.product.specs.Product.{product}
 use Rattle.product.proofs.ValueLaws.{product-gives}
 use Rattle.verdict.specs.Verdict.{side, sides, zeroTest, tested, verdictOf, judged, verdict, sidesPlan, frontPlan, scalesPlan, verdictPlan}
 use Rattle.verdict.specs.Plain.{accepted, sideOf, leftOf, rightOf, scalarsOf, openedOf}
@@ -134,11 +133,7 @@ module _ {k : Bounds} (h : KindLaws k) {n : ℕ} (few : 0 < n) where
     -- so zero is opened exactly where the size is not below the bound
     pub rejected-opens : accepted k z ≡ false → openedOf k n z rs ≡ 0
     unfolding openedOf
-    rejected-opens e =
-        let v : ℕ = leftOf k z * rightOf k z in
-        let s : ℕ = scalarsOf n (drop (length (frontPlan k n)) rs) n in
-        let none : Cong q (v * s) (0 * s) = cong-mul (record { eq = rejected-zero h z within e ∙ sym (zero-mod q) }) cong-refl in
-        none .eq ∙ ap (λ (y : ℕ). y % q) (zero-mul s) ∙ zero-mod q
+    rejected-opens e = zero-product q (leftOf k z * rightOf k z) _ (inl (rejected-zero h z within e))
 
     pub accepted-opens : accepted k z ≡ true → openedOf k n z rs ≢ 0
     unfolding openedOf

@@ -3,7 +3,7 @@ use mathlib.Core.Path.{_≡_, refl, sym, ap, ap₂, subst, _∙_}
 use mathlib.Core.Logic.{_≢_}
 use mathlib.Core.List.{List, [], _∷_, _++_, append-nil, append-assoc}
 use Prim.Native.Nat.{ℕ, zero, suc, _+_, _-_, _*_, _%_, _≤_, _<_}
-use native.Mathlib.Nat.{mod-lt, mod-eq-of-lt, sub-zero}
+use native.Mathlib.Nat.{mod-eq-of-lt, sub-zero}
 use native.Mathlib.Omega.{arith}
 use lib.ListN.{length, getD, length-append, length-replicate, List·getD-append}
 use lib.Seq.{getD-append-seam}
@@ -15,7 +15,7 @@ use Rattle.draws.specs.Draws.{turns, each}
 use Rattle.draws.proofs.Outcomes.{Gives, feed, Fits, none-left, one-more}
 use Rattle.draws.proofs.PlanLaws.{gives-draw, gives-rounds, gives-as, always-feed, feed-bind, fits-split, FitBoth, fits-length}
 use Rattle.draws.proofs.RunLaws.{turns-last}
-use Rattle.shares.specs.Sharing.{arithmetic, value}
+use Rattle.shares.specs.Sharing.{arithmetic}
 use Rattle.shares.specs.Refresh.{refresh, refreshPlan}
 use Rattle.shares.proofs.SharingLaws.{Shares, value-below}
 use Rattle.shares.proofs.RefreshLaws.{refresh-keeps}

@@ -13,7 +13,7 @@ use Rattle.shares.specs.Sharing.{arithmetic, takeFromFirst}
 use Rattle.shares.proofs.ArraysLaws.{given-as}
 use Rattle.shares.proofs.FirstLaws.{taken-take}
 use Rattle.shift.specs.Shift.{shift}
-use Rattle.widening.specs.Widening.{wide, widened}
+use Rattle.widening.specs.Widening.{widened}
 use Rattle.verdict.specs.Verdict.{side}
 use Rattle.verdict.proofs.StepLaws.{bound-wide, side-held}
 use mathlib.Core.Path.{_≡_, ap, _∙_}
