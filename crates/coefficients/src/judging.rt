@@ -1,4 +1,4 @@
-// The verdict on the shares of one coefficient: what is opened says whether the number is small enough, and no more.
+// The verdict on the shares of one coefficient: what is opened says, of a number within the reach, whether it is small enough.
 use super::Judged;
 use super::kind_range;
 use gate::Admitted;
@@ -61,7 +61,7 @@ fn verdict_by(shares: &[u32], tape: &[u32], k: Bounds) -> Judged
     }
 }
 
-// There is no output slice, so its length is not asked for.
+// There is no output slice. The check of its length is given the share count itself, and passes.
 pub fn verdict(shares: &[u32], tape: &[u32], set: u32, kind: u32) -> Judged
     ensures { λ r. ⌜ judgedStandsFor r ≡ judges (verdictGadget set kind) (now (shares .entry)) (now (tape .entry)) ⌝ }
 {

@@ -3,7 +3,7 @@ use mathlib.Core.Path.{_≡_, refl, sym, ap, subst, _∙_}
 use mathlib.Core.Logic.{_≢_}
 use mathlib.Core.Bool.{true, false}
 use mathlib.Core.List.{List, [], _∷_}
-use Prim.Native.Nat.{ℕ, _-_, _%_, _<_}
+use Prim.Native.Nat.{ℕ, _-_, _%_, _^_, _<_}
 use native.Mathlib.Nat.{mod-lt}
 use native.Mathlib.Omega.{arith}
 use lib.Count.{leadingZeros}
@@ -12,17 +12,16 @@ use lib.IntN.{ℤ}
 use Rattle.numbers.specs.Bits.{bitsOf}
 use Rattle.numbers.specs.Modulo.{q}
 use Rattle.numbers.specs.Lists.{Words, sum}
-use Rattle.numbers.proofs.BitsLaws.{bits-smallest}
 use Rattle.numbers.proofs.WordsLaws.{words-none, words-cons}
 use Rattle.params.specs.declared.Bounds.{Bounds}
 use Rattle.params.specs.Laws.{KindLaws}
 use Rattle.params.specs.Sets.{kindOf}
 use Rattle.tape.specs.Tape.{ran, start}
 use Rattle.draws.specs.Plan.{places}
-use Rattle.draws.specs.Anew.{ExactlyOne}
+use Rattle.draws.specs.Anew.{anew, ExactlyOne}
 use Rattle.draws.proofs.Outcomes.{Gives, feed, Fits, merged}
 use Rattle.draws.proofs.PlanLaws.{Reads, reads-fit, reads-run, planned-ran, planned-parts}
-use Rattle.draws.proofs.AnewLaws.{anew-run, anew-reads, anew-is, anew-word, exactly-as, exactly-up}
+use Rattle.draws.proofs.AnewLaws.{anew-run, anew-reads, anew-is, exactly-as, one-anew}
 use Rattle.draws.proofs.HitLaws.{set-first-below}
 use Rattle.shares.specs.Sharing.{arithmetic}
 use Rattle.shares.proofs.SharingLaws.{Shares}
@@ -37,7 +36,7 @@ use Rattle.verdict.proofs.ScalarLaws.{earlier, plan-last, is-last, one-last-sca
 use Rattle.coefficients.specs.Coefficients.{verdictGadget}
 use Rattle.demands.specs.Call.{Valid}
 use Rattle.demands.specs.Verdict.{meant, Within, verdictClaim}
-use Rattle.demands.specs.Scalars.{lastPlace, lastAnew, lastSpan, OneScalar, BothZero, VerdictSettings}
+use Rattle.demands.specs.Scalars.{OneScalar, BothZero, VerdictSettings}
 use Rattle.demands.proofs.Answers.{laws-of}
 use Rattle.demands.proofs.Runs.{tells-success, Succeeded, succeeded, success}
 use Rattle.demands.proofs.VerdictSteps.{of-value, verdict-planned, on-judged}
@@ -103,18 +102,22 @@ module _ (set kind : ℕ) (shares tape : List ℕ) (x : Succeeded (judgeCall (ve
           zero = ap (λ (t : Told). t .opened) (first-told ∙ ap (λ (m : ℕ). success (judged m) (x .place)) none);
         }
 
+    -- the tape with the last scalar's draw set anew to the one number of us
+    tape-with : List ℕ → List ℕ
+    tape-with us = anew (lastScalarMarks k n) (q - 1) (verdictPlan k n) tape start us
+
     -- what the second tells on the tape with the last scalar's draw set anew to us
     told-on : (us : List ℕ) → Words 1 (q - 1) us →
-        judges (verdictGadget set kind) second (lastAnew k n tape us) ≡ success (judged (openedOf k n (meant second) (merged (lastScalarMarks k n) rs us))) (x .place)
-    unfolding judges verdictGadget lastAnew
+        judges (verdictGadget set kind) second (tape-with us) ≡ success (judged (openedOf k n (meant second) (merged (lastScalarMarks k n) rs us))) (x .place)
+    unfolding judges verdictGadget tape-with
     told-on us w =
         let read = anew-reads (lastScalarMarks k n) 1 (q - 1) y (is-last k n few) us (omega arith) (omega arith) w in
-        tells-success (judgeCall (verdictGadget set kind) second) (lastAnew k n tape us) (on-judged set kind second .passes v)
+        tells-success (judgeCall (verdictGadget set kind) second) (tape-with us) (on-judged set kind second .passes v)
         (anew-run (lastScalarMarks k n) 1 (q - 1) y (is-last k n few) us (omega arith) (omega arith) w (verdict k second) (gives .plan)
         ∙ ap (λ (o : Outcome). ran o (x .place)) (second-fed (merged (lastScalarMarks k n) rs us) (reads-fit read)))
 
     abbrev Same : List ℕ → Type 0
-    Same us = judges (verdictGadget set kind) second (lastAnew k n tape us) ≡ judges (verdictGadget set kind) shares tape
+    Same us = judges (verdictGadget set kind) second (tape-with us) ≡ judges (verdictGadget set kind) shares tape
 
     -- exactly one draw leads to what the first opened
     one : accepted k (meant shares) ≡ true → accepted k (meant second) ≡ true → ExactlyOne 1 (q - 1) Same
@@ -128,30 +131,25 @@ module _ (set kind : ℕ) (shares tape : List ℕ) (x : Succeeded (judgeCall (ve
         (one-last-scalar k n few rs (reads-fit y) (meant second) c (accepted-not-zero laws (meant second) within-second f) (opened-below k n (meant shares) rs) some)
 
     -- a number with which the second gives the same count of words is below q − 1
-    below : (us : List ℕ) → Words 1 lastSpan us → Same us → Words 1 (q - 1) us
-    unfolding judges verdictGadget lastAnew lastScalarMarks
+    below : (us : List ℕ) → Words 1 (2 ^ bitsOf (q - 1)) us → Same us → Words 1 (q - 1) us
+    unfolding judges verdictGadget tape-with lastScalarMarks
     below [] w g = absurd (omega (arith, w .size))
     below (u ∷ []) w g =
-        let succeeds : judges (verdictGadget set kind) second (lastAnew k n tape (u ∷ [])) .number ≡ 0 = ap (λ (t : Told). t .number) (g ∙ first-told) in
-        let z = succeeded (judgeCall (verdictGadget set kind) second) (lastAnew k n tape (u ∷ [])) succeeds in
-        let (os, r, _) = planned-parts (gives .plan) (lastAnew k n tape (u ∷ [])) start (z .ran-to) in
+        let succeeds : judges (verdictGadget set kind) second (tape-with (u ∷ [])) .number ≡ 0 = ap (λ (t : Told). t .number) (g ∙ first-told) in
+        let z = succeeded (judgeCall (verdictGadget set kind) second) (tape-with (u ∷ [])) succeeds in
+        let (os, r, _) = planned-parts (gives .plan) (tape-with (u ∷ [])) start (z .ran-to) in
         let used : z .place .at ≡ x .place .at = ap (λ (t : Told). t .used) (sym (z .told-so) ∙ g ∙ x .told-so) in
         words-cons
         (set-first-below (earlier k n few) (q - 1) (n - 1) q (omega arith) same-bits
         (subst (λ (l : List ℕ). Reads tape l start rs (places (verdictPlan k n) tape start) (x .place)) (plan-last k n few) y) (omega arith)
         (anew-is (lastScalarMarks k n) 1 (q - 1) y (is-last k n few) (u ∷ []) w)
-        (subst (λ (l : List ℕ). Reads (lastAnew k n tape (u ∷ [])) l start os (places (verdictPlan k n) (lastAnew k n tape (u ∷ [])) start) (z .place)) (plan-last k n few) r) used)
+        (subst (λ (l : List ℕ). Reads (tape-with (u ∷ [])) l start os (places (verdictPlan k n) (tape-with (u ∷ [])) start) (z .place)) (plan-last k n few) r) used)
         words-none
     below (u ∷ m ∷ us) w g = absurd (omega (arith, w .size))
 
     one-scalar : accepted k (meant shares) ≡ true → accepted k (meant second) ≡ true → OneScalar set kind shares tape second
-    unfolding lastPlace lastAnew
-    one-scalar e f =
-        record {
-          one-scalar = exactly-up (bits-smallest (q - 1) (omega arith) (omega arith) .holds) below (one e f);
-          nothing-else = λ us w. anew-is (lastScalarMarks k n) 1 (q - 1) y (is-last k n few) us w;
-          still-words = λ us w. anew-word (lastScalarMarks k n) 1 (q - 1) y (is-last k n few) us w;
-        }
+    unfolding tape-with
+    one-scalar e f = one-anew (lastScalarMarks k n) 1 (q - 1) y (is-last k n few) (omega arith) (omega arith) below (one e f)
 
 pub verdict-settings : (set kind : ℕ) (shares tape : List ℕ) → VerdictSettings set kind shares tape
 unfolding judges verdictGadget

@@ -7,15 +7,14 @@ use native.Mathlib.Omega.{arith}
 use lib.ListN.{length, length-replicate}
 use Rattle.numbers.specs.Bits.{bitsOf}
 use Rattle.numbers.specs.Lists.{Words}
-use Rattle.numbers.proofs.BitsLaws.{bits-smallest}
 use Rattle.tape.specs.Tape.{ran, start}
 use Rattle.draws.specs.Draws.{Draws, done, bind}
 use Rattle.draws.specs.Plan.{places}
-use Rattle.draws.specs.Anew.{marked, marksAfter, ExactlyOne}
+use Rattle.draws.specs.Anew.{marked, anew, ExactlyOne}
 use Rattle.draws.proofs.Outcomes.{Gives, feed, Fits, merged, Marks}
 use Rattle.draws.proofs.PlanLaws.{Reads, reads-fit, planned-parts, always-run, always-feed, feed-bind, feed-map, FitBoth, fits-split}
 use Rattle.draws.proofs.MarksLaws.{marked-after, marked-length, merged-after}
-use Rattle.draws.proofs.AnewLaws.{anew-run, anew-is, anew-word, exactly-as, exactly-up, reads-length}
+use Rattle.draws.proofs.AnewLaws.{anew-run, anew-is, exactly-as, one-anew, reads-length}
 use Rattle.draws.proofs.HitLaws.{set-below}
 use Rattle.shares.specs.Sharing.{Sharing, bound, value}
 use Rattle.shares.specs.Refresh.{refresh, refreshPlan}
@@ -25,7 +24,7 @@ use Rattle.gate.specs.Told.{Told, Outcome}
 use Rattle.gate.specs.Gadget.{closed, call, tells}
 use Rattle.demands.specs.Call.{Valid}
 use Rattle.demands.specs.Claim.{Claim, Claimed, plan, onShares}
-use Rattle.demands.specs.Settings.{SameTold, closingPlaces, closingAnew, OneSetting, Settings}
+use Rattle.demands.specs.Settings.{SameTold, closingDraws, OneSetting, Settings}
 use Rattle.demands.proofs.Steps.{Steps, closed-give, on-shares}
 use Rattle.demands.proofs.Runs.{tells-success, Succeeded, succeeded, success}
 
@@ -51,11 +50,15 @@ module _ {c : Claim} (s : Steps c) (shares tape out : List ℕ) where
   M = bound (c .gadget .output)
 
   marks : List Bool
-  marks = marksAfter (c .draws n) (closingMarks n)
+  marks = closingDraws c n
+
+  -- the tape with the closing draws set anew to us
+  closingAnew : List ℕ → List ℕ
+  closingAnew us = anew marks M (plan c n) tape start us
 
   -- the closing draws are n - 1 draws below M
   are-closing : Marks marks (plan c n) (n - 1) M
-  unfolding marks plan n M
+  unfolding marks closingDraws plan n M
   are-closing =
       marked-after (c .draws (length shares)) (c .draws (length shares)) (refreshPlan (c .gadget .output) (length shares)) (closingMarks (length shares)) refl
       ∙ closing-marks (c .gadget .output) (length shares)
@@ -95,10 +98,10 @@ module _ {c : Claim} (s : Steps c) (shares tape out : List ℕ) where
       given : List ℕ → Outcome
       given us = record { opened = o .opened; shares = feed (refresh (c .gadget .output) (o .shares)) (merged (closingMarks n) (f .snd) us) }
 
-      told-on : (us : List ℕ) → Words (n - 1) M us → tells (c .gadget) second (closingAnew c n tape us) slice ≡ success (given us) (x .place)
-      unfolding closingAnew given o marks M tells
+      told-on : (us : List ℕ) → Words (n - 1) M us → tells (c .gadget) second (closingAnew us) slice ≡ success (given us) (x .place)
+      unfolding closingAnew given o marks closingDraws M tells
       told-on us w =
-          tells-success (call (c .gadget) second slice) (closingAnew c n tape us) (on-shares s second slice .passes v)
+          tells-success (call (c .gadget) second slice) (closingAnew us) (on-shares s second slice .passes v)
           (anew-run marks (n - 1) M y are-closing us (s .range .positive (v .range)) (s .range .word (v .range)) w (program second) (gy .plan)
           ∙ ap (λ z. ran z (x .place))
           (ap (λ (l : List ℕ). feed (program second) (merged marks l us)) (f .all)
@@ -109,23 +112,23 @@ module _ {c : Claim} (s : Steps c) (shares tape out : List ℕ) where
       unfolding given
       works us t = record { succeeds = refl; shares = t; opened = as-claimed .opened ∙ opens ∙ sym (shown .opened); used = refl }
 
-      one : ExactlyOne (n - 1) M (λ us. SameTold n j (tells (c .gadget) second (closingAnew c n tape us) slice) (tells (c .gadget) shares tape out))
+      one : ExactlyOne (n - 1) M (λ us. SameTold n j (tells (c .gadget) second (closingAnew us) slice) (tells (c .gadget) shares tape out))
       unfolding given M n tells
       one =
           exactly-as _
           (λ us w t. subst (λ (a : Told). SameTold n j a (tells (c .gadget) shares tape out)) (sym (told-on us w))
           (subst (SameTold n j (success (given us) (x .place))) (sym (x .told-so)) (works us t)))
           (λ us w t. subst (λ (a : Told). SameBut n j (a .out) (x .outcome .shares)) (told-on us w)
-          (subst (λ (a : Told). SameBut n j (tells (c .gadget) second (closingAnew c n tape us) slice .out) (a .out)) (x .told-so) (t .shares)))
+          (subst (λ (a : Told). SameBut n j (tells (c .gadget) second (closingAnew us) slice .out) (a .out)) (x .told-so) (t .shares)))
           (refresh-closes (c .gadget .output) (s .range .positive (v .range)) n (o .shares) (x .outcome .shares) (as-claimed .words) (shown .words) j hj (f .snd) (f .fit-snd))
 
     -- a setting with which the second input gives the same count of words has only numbers below M
     below : {rs : List ℕ} → Reads tape (plan c n) start rs (places (plan c n) tape start) (x .place) → (us : List ℕ) → Words (n - 1) (2 ^ bitsOf M) us →
-        SameTold n j (tells (c .gadget) second (closingAnew c n tape us) slice) (tells (c .gadget) shares tape out) → Words (n - 1) M us
-    unfolding closingAnew marks plan M tells
+        SameTold n j (tells (c .gadget) second (closingAnew us) slice) (tells (c .gadget) shares tape out) → Words (n - 1) M us
+    unfolding closingAnew marks closingDraws plan M tells
     below {rs} y us w t =
-        let z = succeeded (call (c .gadget) second slice) (closingAnew c n tape us) (t .succeeds) in
-        let (os, r, _) = planned-parts (gy .plan) (closingAnew c n tape us) start (z .ran-to) in
+        let z = succeeded (call (c .gadget) second slice) (closingAnew us) (t .succeeds) in
+        let (os, r, _) = planned-parts (gy .plan) (closingAnew us) start (z .ran-to) in
         let used : z .place .at ≡ x .place .at =
         sym (ap (λ (a : Told). a .used) (z .told-so)) ∙ t .used ∙ ap (λ (a : Told). a .used) (x .told-so) in
         let (k, e) = closing-plan (c .gadget .output) n in
@@ -134,17 +137,13 @@ module _ {c : Claim} (s : Steps c) (shares tape out : List ℕ) where
         subst (λ (m : ℕ). Words m M us) (w .size)
         (set-below (c .draws n) k M (closingMarks n) (subst (λ (l : List ℕ). Reads tape (c .draws n ++ l) start rs (places (plan c n) tape start) (x .place)) e y)
         (omega arith) (anew-is marks (n - 1) M y are-closing us w) size
-        (subst (λ (l : List ℕ). Reads (closingAnew c n tape us) (c .draws n ++ l) start os (places (plan c n) (closingAnew c n tape us) start) (z .place)) e r) used)
+        (subst (λ (l : List ℕ). Reads (closingAnew us) (c .draws n ++ l) start os (places (plan c n) (closingAnew us) start) (z .place)) e r) used)
 
     one-setting : OneSetting c shares tape out second slice j
-    unfolding closingPlaces closingAnew n M marks plan
+    unfolding closingAnew n M marks plan
     one-setting =
         let (rs, y, e) = planned-parts (gx .plan) tape start (x .ran-to) in
-        record {
-          one-setting = exactly-up (bits-smallest M (s .range .positive (v .range)) (s .range .word (v .range)) .holds) (below y) (one y (fits-split (c .draws n) (reads-fit y)));
-          nothing-else = λ us w. anew-is marks (n - 1) M y are-closing us w;
-          still-words = λ us w. anew-word marks (n - 1) M y are-closing us w;
-        }
+        one-anew marks (n - 1) M y are-closing (s .range .positive (v .range)) (s .range .word (v .range)) (below y) (one y (fits-split (c .draws n) (reads-fit y)))
 
   pub settings : Settings c shares tape out
   unfolding tells

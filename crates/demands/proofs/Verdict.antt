@@ -6,7 +6,7 @@ use native.Mathlib.Omega.{arith}
 use lib.ListN.{length, getD, length-append, length-replicate}
 use Rattle.numbers.specs.Modulo.{q}
 use Rattle.numbers.specs.Bits.{alpha}
-use Rattle.params.specs.Sets.{kindOf}
+use Rattle.params.specs.declared.Bounds.{Bounds}
 use Rattle.shares.specs.Sharing.{arithmetic}
 use Rattle.shares.specs.Refresh.{refreshPlan}
 use Rattle.shift.specs.Shift.{shiftPlan}
@@ -45,17 +45,16 @@ verdict-unique set kind shares tape r s e h = ap answer (e ∙ sym h)
     answer t = record { number = t .number; verdict = getD (t .opened) 0 0; opened = getD (t .opened) 1 0; used = t .used }
 
 -- (α + 1 + 2ρ)·d² + d + n·d/2 + n² draws a call, for d = n - 1
-pub verdict-call-draws : (set kind n : ℕ) → 0 < n →
-    length (verdictPlan (kindOf set kind) n) ≡ (alpha n + 1 + 2 * kindOf set kind .rho) * ((n - 1) * (n - 1)) + (n - 1) + n * (n - 1) / 2 + n * n
+pub verdict-call-draws : (k : Bounds) (n : ℕ) → 0 < n → length (verdictPlan k n) ≡ (alpha n + 1 + 2 * k .rho) * ((n - 1) * (n - 1)) + (n - 1) + n * (n - 1) / 2 + n * n
 unfolding verdictPlan frontPlan sidesPlan widenPlan refreshPlan productPlan
-verdict-call-draws set kind n few =
-    let ρ : ℕ = kindOf set kind .rho in
+verdict-call-draws k n few =
+    let ρ : ℕ = k .rho in
     let d : ℕ = (n - 1) * (n - 1) in
-    let widened : length (widenPlan (kindOf set kind) n) ≡ (alpha n + 1) * d = shift-draws (2 ^ ρ) (alpha n + 1) n in
+    let widened : length (widenPlan k n) ≡ (alpha n + 1) * d = shift-draws (2 ^ ρ) (alpha n + 1) n in
     let side : length (shiftPlan q ρ n) ≡ ρ * d = shift-draws q ρ n in
     rw (
-      length-append (frontPlan (kindOf set kind) n) (scalesPlan q n n),
-      length-append (widenPlan (kindOf set kind) n) (sidesPlan (kindOf set kind) n),
+      length-append (frontPlan k n) (scalesPlan q n n),
+      length-append (widenPlan k n) (sidesPlan k n),
       length-append (shiftPlan q ρ n) (shiftPlan q ρ n ++ (refreshPlan (arithmetic q) n ++ productPlan q n)),
       length-append (shiftPlan q ρ n) (refreshPlan (arithmetic q) n ++ productPlan q n),
       length-append (refreshPlan (arithmetic q) n) (productPlan q n),

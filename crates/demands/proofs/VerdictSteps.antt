@@ -17,7 +17,7 @@ use Rattle.draws.proofs.Outcomes.{Gives}
 use Rattle.draws.proofs.PlanLaws.{planned-parts, reads-run, reads-fit, always-run}
 use Rattle.shares.specs.Sharing.{arithmetic}
 use Rattle.shares.proofs.SharingLaws.{Shares}
-use Rattle.gate.specs.Checks.{inside, allBelow, firstFailing, checks}
+use Rattle.gate.specs.Checks.{inside, allBelow, firstFailing, checksOf, checks, leaveOut}
 use Rattle.gate.specs.Told.{Told, Outcome, refusal, checkNumber, told}
 use Rattle.gate.specs.Judge.{judgeChecks, judgeCall, judges}
 use Rattle.gate.proofs.CheckLaws.{number-most, below-most, below-words, words-below, below-fails, below-passes, all-passed}
@@ -45,7 +45,7 @@ module _ (set kind : ℕ) (shares : List ℕ) where
   -- the checks are those of a gadget on shares with an output slice of the right length
   same-checks : firstFailing (checks shares (length shares) (kindRange set kind) q) ≡ checkNumber (judgeCall (verdictGadget set kind) shares)
   unfolding checkNumber verdictGadget
-  same-checks = judge-checks (verdictGadget set kind) shares []
+  same-checks = judge-checks (verdictGadget set kind) shares
 
   pub verdict-planned : Valid (verdictClaim set kind shares) → Gives Value.Opens (verdict (kindOf set kind) shares) (verdictPlan (kindOf set kind) (length shares))
   verdict-planned v = Value.verdict-gives (laws-of kind (v .range .0)) (omega (arith, v .count .0)) (sum shares % q) shares (of-value (v .below))
@@ -61,9 +61,9 @@ module _ (set kind : ℕ) (shares : List ℕ) where
       let (rs, reads, fed) = planned-parts (g .plan) tape start e in
       let number : Within k shares → j .number ≡ openedOf k (length shares) (meant shares) rs = λ i. ap opened-in (sym (j .is) ∙ sym fed ∙ Value.verdict-feed laws (omega (arith, v .count .0)) (sum shares % q) shares (of-value (v .below)) i rs (reads-fit reads)) in
       record {
-        number = j .number;
+        opens = j .number;
         below = j .below;
-        opened = ap (λ (y : Outcome). y .opened) (j .is);
+        tells = ap (λ (y : Outcome). y .opened) (j .is);
         no-shares = ap (λ (y : Outcome). y .shares) (j .is);
         draws = rs;
         drawn = reads-run reads;
@@ -93,12 +93,12 @@ module _ (set kind : ℕ) (shares : List ℕ) where
             record { count = (p .ready .least, p .ready .most); room = tt; range = t .in-range (p .range); below = p .ready .below };
         planned = λ v. verdict-planned v .plan;
         right = λ v tape e. judgement v tape e;
-        fields = λ tape p o r. ap length (r .opened);
+        fields = λ tape p o r. ap length (r .tells);
       }
 
   -- the checks have no number 2
   pub no-room : (tape : List ℕ) → ¬ (judges (verdictGadget set kind) shares tape .number ≡ 2)
-  unfolding judges checkNumber refusal firstFailing judgeChecks verdictGadget
+  unfolding judges checkNumber refusal firstFailing checks checksOf leaveOut judgeChecks verdictGadget
   no-room tape e = go (ending (judgeCall (verdictGadget set kind) shares) tape)
     where
       number : {t : Told} → told (judgeCall (verdictGadget set kind) shares) tape ≡ t → t .number ≡ 2

@@ -12,15 +12,15 @@ use Rattle.shares.specs.Refresh.{turn, refresh, refreshPlan}
 use Rattle.halving.specs.Halving.{join, joinTurn, sharedParity, less, moveParity, evened, halves, halving, halvingPlan}
 use Rattle.shift.specs.Shift.{shift, shiftPlan}
 use Rattle.switching.specs.Switching.{floors, raised, raisedShift, carries, without}
-use Rattle.gate.specs.Checks.{inside, allBelow, firstFailing}
+use Rattle.gate.specs.Checks.{inside, allBelow, firstFailing, checksOf, checks, leaveOut}
 use Rattle.gate.specs.Told.{refusal, ranTold, checkNumber, told}
 use Rattle.gate.specs.Judge.{judgeChecks, judges}
 use Rattle.widening.specs.Widening.{widen, widenPlan}
 use Rattle.product.specs.Product.{begun, crossed, pair, row, product, productPlan}
-use Rattle.verdict.specs.Verdict.{side, sides, scaled, scaleTurn, zeroTest, tested, verdictOf, verdict, sidesPlan, frontPlan, scalePlan, scalesPlan, verdictPlan}
+use Rattle.verdict.specs.Verdict.{side, sidesProduct, scaled, scaleTurn, zeroTest, tested, verdictOf, verdict, sidesPlan, frontPlan, scalePlan, scalesPlan, verdictPlan}
 use Rattle.coefficients.specs.Coefficients.{kindRange, verdictGadget}
 use Rattle.demands.specs.WorkedVerdict.{WorkedVerdict}
 
 pub worked-verdict : WorkedVerdict
-unfolding leadingZeros addMod subMod negMod bitsOf powerFrom alpha fold sum change along over setOf ofKind known paramsOf lowBits drawFrom drawAt after next run bind turns each addToFirst takeFromFirst negated move turn refresh refreshPlan join joinTurn sharedParity less moveParity evened halves halving halvingPlan shift shiftPlan floors raised raisedShift carries without inside allBelow firstFailing refusal ranTold checkNumber told judgeChecks judges widen widenPlan begun crossed pair row product productPlan side sides scaled scaleTurn zeroTest tested verdictOf verdict sidesPlan frontPlan scalePlan scalesPlan verdictPlan kindRange verdictGadget
+unfolding leadingZeros addMod subMod negMod bitsOf powerFrom alpha fold sum change along over setOf ofKind known paramsOf lowBits drawFrom drawAt after next run bind turns each addToFirst takeFromFirst negated move turn refresh refreshPlan join joinTurn sharedParity less moveParity evened halves halving halvingPlan shift shiftPlan floors raised raisedShift carries without inside allBelow firstFailing checksOf checks leaveOut refusal ranTold checkNumber told judgeChecks judges widen widenPlan begun crossed pair row product productPlan side sidesProduct scaled scaleTurn zeroTest tested verdictOf verdict sidesPlan frontPlan scalePlan scalesPlan verdictPlan kindRange verdictGadget
 worked-verdict = record { multiplied = refl; tested-shares = refl; judged-small = refl; judged-large = refl; judged-short = refl; beyond-rejected = refl; beyond-accepted = refl; verdict-draws-2 = refl; verdict-draws-8 = refl }

@@ -13,10 +13,10 @@ use Rattle.demands.specs.Call.{CallClaim, Valid}
 -- what t, told by a call that succeeds, says
 pub record Correct (c : CallClaim) (tape : List ℕ) (t : Told) : Type 0 where
   pub valid : Valid c
-  -- the output slice and the opened numbers are as claimed, of the tape's words up to a place
+  -- the output slice and the other fields are as claimed, of the tape's words up to a place
   pub place : Cursor
   pub right : c .Right tape place (record { opened = t .opened; shares = t .out })
-  -- as many numbers are opened as a refusal has zeros
+  -- there are as many of these fields as a refusal has zeros
   pub fields : length (t .opened) ≡ c .fields
   -- words used are the words up to that place: the draws and the words skipped
   pub up-to : t .used ≡ place .at

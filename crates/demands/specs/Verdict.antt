@@ -33,17 +33,17 @@ Within k shares = natAbs (meant shares) ≤ k .b
 
 -- the outcome of a call with these shares, on a tape of which the words up to a place were read
 pub record Judgement (k : Bounds) (shares tape : List ℕ) (place : Cursor) (o : Outcome) : Type 0 where
-  -- a number below q is opened; zero rejects, all else accepts
-  pub number : ℕ
-  pub below : number < q
-  pub opened : o .opened ≡ verdictOf number ∷ number ∷ []
+  -- a number below q is opened; zero rejects, all else accepts; and there are no shares
+  pub opens : ℕ
+  pub below : opens < q
+  pub tells : o .opened ≡ verdictOf opens ∷ opens ∷ []
   pub no-shares : o .shares ≡ []
   -- within the reach it is the product of the two sides and of the scalars, which are among the draws of the call,
   pub draws : List ℕ
   pub drawn : run (drawAll (verdictPlan k (length shares))) tape start ≡ ran draws place
-  pub product : Within k shares → number ≡ openedOf k (length shares) (meant shares) draws
+  pub product : Within k shares → opens ≡ openedOf k (length shares) (meant shares) draws
   -- and the verdict is 1 exactly where the size is below the bound
-  pub plain : Within k shares → verdictOf number ≡ pick (accepted k (meant shares)) 1 0
+  pub plain : Within k shares → verdictOf opens ≡ pick (accepted k (meant shares)) 1 0
 
 abbrev pub verdictClaim : (set kind : ℕ) → (shares : List ℕ) → CallClaim
 verdictClaim set kind shares =

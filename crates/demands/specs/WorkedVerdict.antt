@@ -1,5 +1,5 @@
--- Calls of the verdict worked by hand. Of the shares that it opens a caller sees only the sum, which no order of the draws changes; so the product and the
--- shares before the opening stand here too.
+-- Calls of the verdict worked by hand. Of the shares that it opens a caller sees only the sum, in which a wrong order of the steps, a wrong sign or a
+-- refresh left out need not show; so the product and the shares before the opening stand here too.
 use mathlib.Core.Path.{_≡_}
 use mathlib.Core.List.{List, [], _∷_}
 use Prim.Native.Nat.{ℕ}

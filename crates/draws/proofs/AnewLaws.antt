@@ -17,7 +17,7 @@ use Rattle.tape.specs.declared.Cursor.{Cursor}
 use Rattle.tape.specs.Tape.{ran, lowBits}
 use Rattle.draws.specs.Draws.{Draws, run}
 use Rattle.draws.specs.Plan.{places, skipped}
-use Rattle.draws.specs.Anew.{highBits, withLow, setAt, marked, anew, Among, Same, SetAnew, ExactlyOne}
+use Rattle.draws.specs.Anew.{highBits, withLow, setAt, marked, anew, Among, Same, SetAnew, ExactlyOne, OneAnew}
 use Rattle.draws.proofs.Outcomes.{Plan, feed, merged, Marks}
 use Rattle.draws.proofs.DrawnLaws.{Drawn, drawn-moves, drawn-reads, drawn-anew, same-within, with-low, with-high}
 use Rattle.draws.proofs.PlanLaws.{Reads, none, one, reads-run, reads-places, one-skipped, planned-ran}
@@ -264,4 +264,15 @@ exactly-up h f e =
       words = words-up h (e .words);
       works = e .works;
       only = λ rs w u. e .only rs (f rs w u) u;
+    }
+
+-- so it is enough that exactly one list of numbers below M makes such a tape, and that every list that does is one
+pub one-anew : (bs : List Bool) (k M : ℕ) {tape ms : List ℕ} {p : Cursor} {rs : List ℕ} {q : Cursor} → Reads tape ms p rs (places ms tape p) q → Marks bs ms k M →
+    0 < M → M ≤ 2 ^ 32 → {Q : List ℕ → Type 0} → ((us : List ℕ) → Words k (2 ^ bitsOf M) us → Q (anew bs M ms tape p us) → Words k M us) →
+    ExactlyOne k M (λ us. Q (anew bs M ms tape p us)) → OneAnew bs k M ms tape p Q
+one-anew bs k M x mk h l below e =
+    record {
+      one = exactly-up (bits-smallest M h l .holds) below e;
+      nothing-else = λ us w. anew-is bs k M x mk us w;
+      still-words = λ us w. anew-word bs k M x mk us w;
     }

@@ -62,3 +62,12 @@ pub record ExactlyOne (k M : ℕ) (Q : List ℕ → Type 0) : Type 0 where
   pub words : Words k M setting
   pub works : Q setting
   pub only : (rs : List ℕ) → Words k M rs → Q rs → rs ≡ setting
+
+-- exactly one list of k numbers of L bits, to which the marked ones of the draws ms are set anew, makes a tape that has Q: the marked ones are draws below M,
+-- and a number that is put into the low L bits of a word is below 2^L
+pub record OneAnew (bs : List Bool) (k M : ℕ) (ms tape : List ℕ) (c : Cursor) (Q : List ℕ → Type 0) : Type 0 where
+  pub one : ExactlyOne k (2 ^ bitsOf M) (λ us. Q (anew bs M ms tape c us))
+  -- to set them anew changes the low L bits of the words that gave them, and nothing more
+  pub nothing-else : (us : List ℕ) → Words k (2 ^ bitsOf M) us → SetAnew M tape (marked bs (places ms tape c)) us (anew bs M ms tape c us)
+  -- which leaves a tape of 32-bit words
+  pub still-words : (us : List ℕ) → Words k (2 ^ bitsOf M) us → ((i : ℕ) → getD tape i 0 < 2 ^ 32) → (i : ℕ) → getD (anew bs M ms tape c us) i 0 < 2 ^ 32

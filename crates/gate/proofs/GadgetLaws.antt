@@ -14,7 +14,7 @@ use Rattle.shares.specs.Sharing.{Sharing, bound}
 use Rattle.shares.specs.Refresh.{refresh}
 use Rattle.shares.specs.declared.Shared.{Shared}
 use Rattle.shares.specs.Arrays.{Held, Copied, shared, Gave}
-use Rattle.gate.specs.Checks.{firstFailing, checksOf, Checked, checks}
+use Rattle.gate.specs.Checks.{firstFailing, checksOf, Checked, checks, leaveOut}
 use Rattle.gate.specs.declared.Answer.{Answer}
 use Rattle.gate.specs.Told.{Told, refusal, Outcome, silent, openedRan, silentRan, ranTold, Call, checkNumber, told, standsFor}
 use Rattle.gate.specs.Gadget.{Gadget, silentSteps, silentGadget, closed, call, tells}
@@ -107,13 +107,13 @@ module _ (g : Sampler) (n : ℕ) (tape out : List ℕ) where
       f ∙ ap (λ y. ranTold 0 (silentRan y) (g .short out)) h ∙ ap (λ y. ranTold 0 y (g .short out)) (sym (run-silent (g .steps n out) tape start))
       ∙ sym (tells-passed (samplerCall g n out) tape (sym e))
 
+-- an output slice that is not there has the right length
+pub judge-checks : (g : Judge) (shares : List ℕ) → firstFailing (checks shares (length shares) (g .inRange) (bound (g .input))) ≡ firstFailing (judgeChecks shares (g .inRange) (bound (g .input)))
+unfolding firstFailing checks checksOf leaveOut judgeChecks
+judge-checks g shares = rw (eq-eqb (length shares) (length shares) refl)
+
 -- so does a gadget that judges
 module _ (g : Judge) (shares tape : List ℕ) where
-  -- an output slice that is not there has the right length
-  pub judge-checks : firstFailing (checks shares (length shares) (g .inRange) (bound (g .input))) ≡ firstFailing (judgeChecks shares (g .inRange) (bound (g .input)))
-  unfolding firstFailing checks checksOf judgeChecks
-  judge-checks = rw (eq-eqb (length shares) (length shares) refl)
-
   pub judge-refused : {k : ℕ} {t : Told} → k ≡ firstFailing (judgeChecks shares (g .inRange) (bound (g .input))) → (k ≡ 0 → ⊥) →
       t ≡ refusal (g .fields) k [] → t ≡ judges g shares tape
   unfolding judges checkNumber

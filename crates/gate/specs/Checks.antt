@@ -30,6 +30,11 @@ checksOf n room words inRange more = (1, inside 2 8 n) ∷ (2, eqb room words) �
 unfoldable pub checks : List ℕ → ℕ → Bool → ℕ → List (ℕ × Bool)
 checks shares room inRange M = checksOf (length shares) room (length shares) inRange ((4, allBelow M shares) ∷ [])
 
+-- the checks but those of one number
+unfoldable pub leaveOut : ℕ → List (ℕ × Bool) → List (ℕ × Bool)
+leaveOut k [] = []
+leaveOut k (c ∷ cs) = pick (eqb (c .0) k) (leaveOut k cs) (c ∷ leaveOut k cs)
+
 -- where none fails of a gadget on shares: two to eight of them, below M, and an output slice of as many words
 pub record Checked (shares : List ℕ) (room M : ℕ) : Type 0 where
   pub least : 2 ≤ length shares

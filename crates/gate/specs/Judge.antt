@@ -1,11 +1,11 @@
 -- A gadget that judges shares, and what it tells its caller: numbers, and no shares (document 01, "What a caller gets back" and "Verdict").
 use mathlib.Core.Bool.{Bool}
-use mathlib.Core.List.{List, [], _∷_}
+use mathlib.Core.List.{List, []}
 use Prim.Native.Nat.{ℕ}
 use lib.ListN.{length}
 use Rattle.draws.specs.Draws.{Draws}
 use Rattle.shares.specs.Sharing.{Sharing, bound}
-use Rattle.gate.specs.Checks.{inside, allBelow}
+use Rattle.gate.specs.Checks.{checks, leaveOut}
 use Rattle.gate.specs.Told.{Told, Outcome, Call, told}
 
 -- such a gadget, its parameters given
@@ -16,12 +16,12 @@ pub record Judge : Type 0 where
   pub input : Sharing
   -- how many numbers it tells beside the words used
   pub fields : ℕ
-  -- its steps, which give no shares
+  -- its steps, to those numbers; an outcome of theirs has no shares
   pub steps : List ℕ → Draws Outcome
 
--- the share count, the parameters, the shares: there is no output slice, so number 2 cannot arise
+-- the checks of a gadget on shares but number 2, which cannot arise: there is no output slice
 unfoldable pub judgeChecks : List ℕ → Bool → ℕ → List (ℕ × Bool)
-judgeChecks shares inRange M = (1, inside 2 8 (length shares)) ∷ (3, inRange) ∷ (4, allBelow M shares) ∷ []
+judgeChecks shares inRange M = leaveOut 2 (checks shares (length shares) inRange M)
 
 -- a call of it; nothing is left to close, and nothing is lent but what is only read
 abbrev pub judgeCall : Judge → (shares : List ℕ) → Call

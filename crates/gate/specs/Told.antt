@@ -10,7 +10,8 @@ use Rattle.draws.specs.Draws.{Draws, run}
 use Rattle.gate.specs.Checks.{firstFailing}
 use Rattle.gate.specs.declared.Answer.{Answer}
 
--- the number; the other fields, which a gadget fills with the numbers that it opens; the words used; and the output slice
+-- the number; the other fields, which a gadget fills with the numbers that it opens, and the verdict with its verdict too; the words used; and the output
+-- slice
 pub record Told : Type 0 where
   pub number : ℕ
   pub opened : List ℕ
@@ -21,7 +22,7 @@ pub record Told : Type 0 where
 unfoldable pub refusal : ℕ → ℕ → List ℕ → Told
 refusal fields number out = record { number = number; opened = replicate fields 0; used = 0; out = out }
 
--- the outcome of a gadget's steps: the numbers that it opens, and its shares
+-- the outcome of a gadget's steps: what fills those fields, and its shares
 pub record Outcome : Type 0 where
   pub opened : List ℕ
   pub shares : List ℕ
@@ -46,9 +47,9 @@ ranTold fields (ran o c) short = record { number = 0; opened = o .opened; used =
 -- a call, all but its tape given
 pub record Call : Type 0 where
   pub checks : List (ℕ × Bool)
-  -- its draws, to the numbers that it opens and the shares that fill the output slice
+  -- its draws, to what fills the other fields and the shares that fill the output slice
   pub program : Draws Outcome
-  -- how many numbers it opens
+  -- how many other fields it has
   pub fields : ℕ
   -- the output slice, which a refusal by a check leaves unchanged
   pub out : List ℕ

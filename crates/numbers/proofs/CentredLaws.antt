@@ -11,7 +11,7 @@ use borrow.Author.Tests.{lt-ltb, le-ltb, le-leb, lt-leb}
 use Rattle.numbers.specs.Modulo.{addMod, subMod, negMod}
 use Rattle.numbers.specs.Centred.{centred, residue}
 use Rattle.numbers.proofs.Cong.{cong-by, cong-eq, cong-refl, cong-add, cong-mod, cong-sym, cong-cancel, via, _⨾_}
-use Rattle.numbers.proofs.GroupLaws.{sub-back, sub-only}
+use Rattle.numbers.proofs.GroupLaws.{sub-small, sub-back, sub-only}
 
 -- a number less another
 pub less-over : (a b : ℕ) → b ≤ a → pos a -ℤ pos b ≡ pos (a - b)
@@ -108,14 +108,10 @@ module _ (M b x : ℕ) (l : x < M) (room : 2 * b < M) (h : natAbs (centred M x) 
 
 -- ---- the residue of a signed number
 module _ (M : ℕ) (some : 0 < M) where
-  sub-small : (a b : ℕ) → subMod M a b < M
-  unfolding subMod
-  sub-small a b = mod-lt (a + (M - b % M)) some
-
   pub residue-below : (z : ℤ) → residue M z < M
   unfolding residue negMod
   residue-below (pos v) = mod-lt v some
-  residue-below (negsuc v) = sub-small 0 (suc v)
+  residue-below (negsuc v) = sub-small M 0 (suc v) some
 
   -- of a number less another
   pub residue-less : (z : ℤ) (a : ℕ) → residue M (z -ℤ pos a) ≡ subMod M (residue M z) a
@@ -128,13 +124,13 @@ module _ (M : ℕ) (some : 0 < M) where
           let e : suc (a - suc v) ≡ a - v = omega arith in
           let r : ℕ = subMod M 0 (a - v) in
           rw (less-under v a (omega arith), e)
-          (sub-only a (sub-small 0 (a - v)) (via (r + (a - v) + v) (cong-eq (omega arith)) (cong-add (sub-back M 0 (a - v) some) cong-refl ⨾ via v (cong-eq (omega arith)) (cong-sym cong-mod))))
+          (sub-only a (sub-small M 0 (a - v) some) (via (r + (a - v) + v) (cong-eq (omega arith)) (cong-add (sub-back M 0 (a - v) some) cong-refl ⨾ via v (cong-eq (omega arith)) (cong-sym cong-mod))))
   residue-less (negsuc v) zero =
       let e : suc v - suc 0 ≡ v = omega arith in
-      ap (residue M) (less-under 0 (suc v) (omega arith) ∙ ap negsuc e) ∙ sub-only 0 (sub-small 0 (suc v)) (cong-eq (omega arith))
+      ap (residue M) (less-under 0 (suc v) (omega arith) ∙ ap negsuc e) ∙ sub-only 0 (sub-small M 0 (suc v) some) (cong-eq (omega arith))
   residue-less (negsuc v) (suc b) =
       let r : ℕ = subMod M 0 (suc (suc (v + b))) in
-      sub-only (suc b) (sub-small 0 (suc (suc (v + b))))
+      sub-only (suc b) (sub-small M 0 (suc (suc (v + b))) some)
       (cong-cancel (suc v)
       (via (r + suc (suc (v + b))) (cong-eq (omega arith)) (sub-back M 0 (suc (suc (v + b))) some ⨾ cong-sym (sub-back M 0 (suc v) some))))
 
@@ -142,7 +138,7 @@ module _ (M : ℕ) (some : 0 < M) where
   pub residue-negated : (z : ℤ) → residue M (negℤ z) ≡ negMod M (residue M z)
   unfolding residue negMod
   residue-negated (pos zero) = sub-only (0 % M) (mod-lt 0 some) (via (0 + 0) (cong-add cong-mod cong-mod) (cong-eq (omega arith)))
-  residue-negated (pos (suc v)) = sub-only (suc v % M) (sub-small 0 (suc v)) (cong-add cong-refl cong-mod ⨾ sub-back M 0 (suc v) some)
+  residue-negated (pos (suc v)) = sub-only (suc v % M) (sub-small M 0 (suc v) some) (cong-add cong-refl cong-mod ⨾ sub-back M 0 (suc v) some)
   residue-negated (negsuc v) =
       let r : ℕ = subMod M 0 (suc v) in
       sub-only r (mod-lt (suc v) some) (cong-add cong-mod cong-refl ⨾ via (r + suc v) (cong-eq (omega arith)) (sub-back M 0 (suc v) some))

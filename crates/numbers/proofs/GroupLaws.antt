@@ -17,7 +17,12 @@ pub record Group (M : ℕ) (add sub : ℕ → ℕ → ℕ) : Type 0 where
   pub zero : (a : ℕ) → a < M → add a 0 ≡ a
   pub sub-add : (a b : ℕ) → a < M → b < M → add (sub a b) b ≡ a
 
--- a difference modulo M, with what was taken put back, for any numbers
+-- a difference modulo M is below M, whatever the numbers
+pub sub-small : (M a b : ℕ) → 0 < M → subMod M a b < M
+unfolding subMod
+sub-small M a b h = mod-lt (a + (M - b % M)) h
+
+-- with what was taken put back it is the number
 pub sub-back : (M a b : ℕ) → 0 < M → Cong M (subMod M a b + b) a
 unfolding subMod
 sub-back M a b h =
@@ -35,7 +40,7 @@ sums M h =
     record {
       positive = h;
       add-below = λ a b p r. mod-lt (a + b) h;
-      sub-below = λ a b p r. mod-lt (a + (M - b % M)) h;
+      sub-below = λ a b p r. sub-small M a b h;
       comm = λ a b. rw (add-comm a b);
       assoc = λ a b c. rw (mod-add-mod, add-mod-mod, add-assoc);
       zero = λ a p. rw add-zero (mod-eq-of-lt p);

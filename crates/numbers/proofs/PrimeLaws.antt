@@ -8,7 +8,7 @@ use native.Mathlib.Decide.{ℕ-discrete, decLt}
 use native.Mathlib.Omega.{arith}
 use lib.Dec.{T, eqb, lit<}
 use Rattle.numbers.specs.Modulo.{q}
-use Rattle.numbers.specs.Prime.{Prime}
+use Rattle.numbers.specs.Prime.{Prime, OneFactor}
 use Rattle.numbers.proofs.Cong.{Cong, cong-by, cong-eq, cong-mod, cong-mul, cong-refl, cong-sym, cong-small, via, _⨾_}
 
 -- p = t·a + r, w = −t and r·s = 1 modulo p give a·w·s = 1
@@ -48,7 +48,7 @@ module _ {p : ℕ} (prime : Prime p) where
       let one : (x : ℕ) → Cong p (s * (a * x)) x = λ x. via (a * s * x) (cong-eq (omega arith)) (cong-mul i cong-refl ⨾ cong-eq (omega arith)) in
       cong-sym (one b) ⨾ cong-mul (cong-refl {a = s}) e ⨾ one c
 
-  -- a product is zero only where a factor is (and there it is: `zero-product`)
+  -- a product is zero only where a factor is
   pub zero-factor : (a b : ℕ) → (a * b) % p ≡ 0 → (a % p ≡ 0) ⊎ (b % p ≡ 0)
   zero-factor a b e = go (ℕ-discrete (a % p) 0)
     where
@@ -56,7 +56,11 @@ module _ {p : ℕ} (prime : Prime p) where
       go (yes z) = inl z
       go (no n) = inr (cancel a b 0 n (via 0 (record { eq = e ∙ sym (zero-mod p) }) (cong-eq (omega arith))) .eq ∙ zero-mod p)
 
-  -- so a product of factors that are not zero is not
+  -- so it is zero exactly there
+  pub zero-exactly : (a b : ℕ) → ((a * b) % p ≡ 0 → (a % p ≡ 0) ⊎ (b % p ≡ 0)) × ((a % p ≡ 0) ⊎ (b % p ≡ 0) → (a * b) % p ≡ 0)
+  zero-exactly a b = (zero-factor a b, zero-product p a b)
+
+  -- and a product of factors that are not zero is not
   pub no-zero : (a b : ℕ) → a % p ≢ 0 → b % p ≢ 0 → (a * b) % p ≢ 0
   no-zero a b ha hb e = go (zero-factor a b e)
     where
@@ -64,16 +68,8 @@ module _ {p : ℕ} (prime : Prime p) where
       go (inl z) = ha z
       go (inr z) = hb z
 
-  -- s is the one factor, from 1 to p − 1, that leads from a to c
-  pub record OneFactor (a c : ℕ) : Type 0 where
-    pub factor : ℕ
-    pub least : 0 < factor
-    pub most : factor < p
-    pub leads : (a * factor) % p ≡ c
-    pub only : (s : ℕ) → s < p → (a * s) % p ≡ c → s ≡ factor
-
   -- every residue that is not zero reaches every such residue by exactly one factor that is not zero
-  pub one-factor : (a c : ℕ) → a % p ≢ 0 → c < p → c ≢ 0 → OneFactor a c
+  pub one-factor : (a c : ℕ) → a % p ≢ 0 → c < p → c ≢ 0 → OneFactor p a c
   one-factor a c ha hc nc =
       let (s, i) = inv a ha in
       let t : ℕ = (s * c) % p in

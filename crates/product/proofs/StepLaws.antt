@@ -64,10 +64,6 @@ pub crossed-stored : (M : ℕ) (ls rs : List ℕ) (i j v : ℕ) (xs : List ℕ) 
 unfolding crossed change
 crossed-stored M ls rs i j v xs e f = rw (f, e)
 
-pub less-below : {M : ℕ} (x v : ℕ) {r : ℕ} → 0 < M → r ≡ subMod M x v → r < M
-unfolding subMod
-less-below x v some e = rw e (mod-lt _ some)
-
 -- ---- the pairs of share i, from pair j on
 pub record Crossing (M n : ℕ) (ls rs : List ℕ) (i : ℕ) (tape : List ℕ) (x : Ran (List ℕ)) (j : ℕ) (words : List ℕ) (p : Cursor) : Type 0 where
   pub later : i < j

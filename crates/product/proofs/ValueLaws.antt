@@ -9,7 +9,7 @@ use lib.Seq.{drop-cons, getD-drop, take-all}
 use Rattle.numbers.specs.Modulo.{addMod, subMod}
 use Rattle.numbers.specs.Lists.{Words, fold, sum, along}
 use Rattle.numbers.proofs.Cong.{Cong, cong-eq, cong-mod, cong-add, cong-mul, cong-refl, cong-sym, cong-cancel, via, _⨾_}
-use Rattle.numbers.proofs.GroupLaws.{sub-back}
+use Rattle.numbers.proofs.GroupLaws.{sub-small, sub-back}
 use Rattle.numbers.proofs.SumLaws.{sum-more}
 use Rattle.draws.specs.Draws.{turns, each}
 use Rattle.draws.proofs.Outcomes.{Gives}
@@ -18,7 +18,7 @@ use Rattle.shares.specs.Sharing.{arithmetic}
 use Rattle.shares.proofs.SharingLaws.{Shares}
 use Rattle.shares.proofs.MoveLaws.{added-value}
 use Rattle.product.specs.Product.{begun, cross, crossed, pair, row, product, productPlan}
-use Rattle.product.proofs.StepLaws.{begun-words, less-below}
+use Rattle.product.proofs.StepLaws.{begun-words}
 
 -- l_1·r_1 + l_2·r_2 + ..
 dot : List ℕ → List ℕ → ℕ
@@ -56,7 +56,7 @@ module _ (M : ℕ) (some : 0 < M) {n : ℕ} (ls rs : List ℕ) (el : length ls �
   unfolding crossed addMod
   crossed-value i j v w xs hi hj hv a =
       let t : ℕ = subMod M (cross ls rs i j) v in
-      let b = added-value (arithmetic M) some j t (less-below (cross ls rs i j) v some refl) hj (added-value (arithmetic M) some i v hv hi a) in
+      let b = added-value (arithmetic M) some j t (sub-small M (cross ls rs i j) v some) hj (added-value (arithmetic M) some i v hv hi a) in
       record {
         words = b .words;
         is = b .is ∙ (cong-add cong-mod cong-refl ⨾ via (w + (t + v)) (cong-eq (omega arith)) (cong-add cong-refl (sub-back M (cross ls rs i j) v some))) .eq;

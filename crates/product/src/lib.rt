@@ -1,4 +1,4 @@
-// The product of two sharings modulo q. A fresh draw for each pair of shares keeps the two factors apart.
+// The product of two sharings modulo q. Each pair of shares has a draw of its own, added to one and taken from the other.
 use params::Params;
 use shares::Shared;
 use tape::Cursor;

@@ -46,27 +46,27 @@ unfolding negMod
 below-zero M c some most = sym (sub-only c (omega arith) (cong-by 0 1 (omega arith)))
 
 module _ {k : Bounds} (h : KindLaws k) where
-  T : ℕ
-  T = 2 ^ k .rho
+  wraps : ℕ
+  wraps = 2 ^ k .rho
 
   -- there is room for a, b and 2^ρ in 2^ρ·q
-  room : k .a + k .b + T ≤ wide k
-  unfolding T
+  room : k .a + k .b + wraps ≤ wide k
+  unfolding wraps
   room =
       let few : 2 ^ k .rho ≤ 2 ^ 9 = pow-mono (rho-most h) in
       omega (arith, mul-le-mul-right q (wraps-least h), h .order, h .quarter)
 
-  past-bound : {v : ℕ} → k .a ≤ v → v ≤ k .b → v - k .a < T
-  unfolding T
+  past-bound : {v : ℕ} → k .a ≤ v → v ≤ k .b → v - k .a < wraps
+  unfolding wraps
   past-bound e l = omega (arith, h .past)
 
   -- z − a is in 0 .. 2^ρ − 1, or is a negative number whose residue is at least 2^ρ
-  side-none : (z : ℤ) (r : ℕ) → residue (wide k) (z -ℤ pos (k .a)) ≡ r → r < T → sideOf k z ≡ 0
-  unfolding sideOf T
+  side-none : (z : ℤ) (r : ℕ) → residue (wide k) (z -ℤ pos (k .a)) ≡ r → r < wraps → sideOf k z ≡ 0
+  unfolding sideOf wraps
   side-none z r e l = ap (λ (x : ℕ). x / 2 ^ k .rho) e ∙ div-eq-of-lt l
 
-  side-some : (z : ℤ) (r : ℕ) → residue (wide k) (z -ℤ pos (k .a)) ≡ r → T ≤ r → 0 < sideOf k z
-  unfolding sideOf T
+  side-some : (z : ℤ) (r : ℕ) → residue (wide k) (z -ℤ pos (k .a)) ≡ r → wraps ≤ r → 0 < sideOf k z
+  unfolding sideOf wraps
   side-some z r e l = rw e (le-div-iff-mul-le (pow-pos (k .rho)) .1 (omega arith))
 
   -- from the bound on, and before it

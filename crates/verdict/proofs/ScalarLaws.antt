@@ -7,22 +7,22 @@ use mathlib.Core.List.{List, [], _∷_, _++_, append-assoc}
 use Prim.Native.Nat.{ℕ, suc, _+_, _-_, _*_, _%_, _<_}
 use native.Mathlib.Omega.{arith}
 use lib.ListN.{length, drop, replicate}
-use lib.Seq.{drop-append-seam}
 use lib.IntN.{ℤ}
 use Rattle.numbers.specs.Modulo.{q}
 use Rattle.numbers.specs.Lists.{Words}
+use Rattle.numbers.specs.Prime.{OneFactor}
 use Rattle.numbers.proofs.WordsLaws.{words-none, words-head, words-cons}
-use Rattle.numbers.proofs.PrimeLaws.{q-prime, no-zero, OneFactor, one-factor}
+use Rattle.numbers.proofs.PrimeLaws.{q-prime, no-zero, one-factor}
 use Rattle.params.specs.declared.Bounds.{Bounds}
 use Rattle.draws.specs.Anew.{marked, ExactlyOne}
 use Rattle.draws.proofs.Outcomes.{Fits, merged, Marks}
-use Rattle.draws.proofs.PlanLaws.{fits-split, fits-both, FitBoth, fits-length}
+use Rattle.draws.proofs.PlanLaws.{fits-both, FitBoth}
 use Rattle.draws.proofs.MarksLaws.{marked-after, merged-after}
 use Rattle.shares.specs.Refresh.{refreshPlan}
 use Rattle.verdict.specs.Verdict.{frontPlan, scalePlan, scalesPlan, verdictPlan}
 use Rattle.verdict.specs.Plain.{leftOf, rightOf, scalarsOf, openedOf}
 use Rattle.verdict.specs.LastScalar.{lastScalarMarks}
-use Rattle.verdict.proofs.ZeroLaws.{scales-last, Scales, scales-parts, before-length, scalars-last, scalars-not-zero}
+use Rattle.verdict.proofs.ZeroLaws.{verdict-parts, drop-front, scales-last, Scales, scales-parts, before-length, scalars-last, scalars-not-zero}
 
 module _ (k : Bounds) (n : ℕ) (few : 0 < n) where
   -- the draws before the last scalar's
@@ -43,8 +43,7 @@ module _ (k : Bounds) (n : ℕ) (few : 0 < n) where
 
   module _ (rs : List ℕ) (f : Fits (verdictPlan k n) rs) where
     parts : FitBoth (frontPlan k n) (scalesPlan q n n) rs
-    unfolding verdictPlan
-    parts = fits-split (frontPlan k n) f
+    parts = verdict-parts k n rs f
 
     last : Scales q n (n - 1) (parts .snd)
     last = let one : n ≡ suc (n - 1) = omega arith in scales-parts q n (n - 1) (parts .snd) (subst (λ (m : ℕ). Fits (scalesPlan q n m) (parts .snd)) one (parts .fit-snd))
@@ -73,8 +72,7 @@ module _ (k : Bounds) (n : ℕ) (few : 0 < n) where
     unfolding openedOf with-last s
     opens z u =
         let one : suc (n - 1) ≡ n = omega arith in
-        let zero-test : drop (length (frontPlan k n)) (with-last u) ≡ last .before ++ (u ∷ last .fresh) =
-        ap (λ (m : ℕ). drop m (with-last u)) (sym (fits-length (parts .fit-fst))) ∙ drop-append-seam (parts .fst) (last .before ++ (u ∷ last .fresh)) in
+        let zero-test : drop (length (frontPlan k n)) (with-last u) ≡ last .before ++ (u ∷ last .fresh) = drop-front (last .before ++ (u ∷ last .fresh)) (parts .fit-fst) in
         let scalars : scalarsOf n (last .before ++ (u ∷ last .fresh)) n ≡ s * (u + 1) =
         ap (scalarsOf n (last .before ++ (u ∷ last .fresh))) (sym one) ∙ scalars-last few (n - 1) u (last .before) (last .fresh) (before-length few last) in
         ap (λ (l : List ℕ). leftOf k z * rightOf k z * scalarsOf n (drop (length (frontPlan k n)) l) n % q) (merged-last u)
@@ -86,7 +84,7 @@ module _ (k : Bounds) (n : ℕ) (few : 0 < n) where
       v : ℕ
       v = leftOf k z * rightOf k z * s
 
-      g : OneFactor q-prime v c
+      g : OneFactor q v c
       unfolding v
       g = one-factor q-prime (leftOf k z * rightOf k z * s) c (no-zero q-prime (leftOf k z * rightOf k z) s sides s-not-zero) below some
 

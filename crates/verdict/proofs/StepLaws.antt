@@ -30,7 +30,7 @@ use Rattle.shares.proofs.LoopLaws.{Looping, looping-ended, looping-more}
 use Rattle.widening.specs.Widening.{wide, widened, widen}
 use Rattle.widening.proofs.StepLaws.{wide-least}
 use Rattle.product.specs.Product.{product}
-use Rattle.verdict.specs.Verdict.{side, sides, scaled, scaleTurn, zeroTest, tested}
+use Rattle.verdict.specs.Verdict.{side, sidesProduct, scaled, scaleTurn, zeroTest, tested}
 
 -- ---- a side
 module _ {k : Bounds} (h : KindLaws k) where
@@ -42,24 +42,24 @@ module _ {k : Bounds} (h : KindLaws k) where
 
 -- ---- both sides and their product
 module _ (k : Bounds) (ws tape : List ℕ) (p : Cursor) where
-  pub left-ended : run (side k ws) tape p ≡ ended → ended ≡ run (sides k ws) tape p
-  unfolding sides
+  pub left-ended : run (side k ws) tape p ≡ ended → ended ≡ run (sidesProduct k ws) tape p
+  unfolding sidesProduct
   left-ended e = sym (bind-ended (side k ws) _ tape p e)
 
   module _ (left : List ℕ) {c : Cursor} (l : run (side k ws) tape p ≡ ran left c) where
-    pub right-ended : run (side k (negated (wide k) ws)) tape c ≡ ended → ended ≡ run (sides k ws) tape p
-    unfolding sides
+    pub right-ended : run (side k (negated (wide k) ws)) tape c ≡ ended → ended ≡ run (sidesProduct k ws) tape p
+    unfolding sidesProduct
     right-ended e = sym (bind-ran (side k ws) _ tape p left c l ∙ bind-ended (side k (negated (wide k) ws)) _ tape c e)
 
     module _ (right : List ℕ) {d : Cursor} (r : run (side k (negated (wide k) ws)) tape c ≡ ran right d) where
-      to-refresh : run (sides k ws) tape p ≡ run (bind (refresh (arithmetic q) left) (λ fresh. product q fresh right)) tape d
-      unfolding sides
+      to-refresh : run (sidesProduct k ws) tape p ≡ run (bind (refresh (arithmetic q) left) (λ fresh. product q fresh right)) tape d
+      unfolding sidesProduct
       to-refresh = bind-ran (side k ws) _ tape p left c l ∙ bind-ran (side k (negated (wide k) ws)) _ tape c right d r
 
-      pub fresh-ended : run (refresh (arithmetic q) left) tape d ≡ ended → ended ≡ run (sides k ws) tape p
+      pub fresh-ended : run (refresh (arithmetic q) left) tape d ≡ ended → ended ≡ run (sidesProduct k ws) tape p
       fresh-ended e = sym (to-refresh ∙ bind-ended (refresh (arithmetic q) left) _ tape d e)
 
-      pub to-product : (fresh : List ℕ) {e : Cursor} → run (refresh (arithmetic q) left) tape d ≡ ran fresh e → run (product q fresh right) tape e ≡ run (sides k ws) tape p
+      pub to-product : (fresh : List ℕ) {e : Cursor} → run (refresh (arithmetic q) left) tape d ≡ ran fresh e → run (product q fresh right) tape e ≡ run (sidesProduct k ws) tape p
       to-product fresh {e} f = sym (to-refresh ∙ bind-ran (refresh (arithmetic q) left) _ tape d fresh e f)
 
 -- ---- the zero test
@@ -115,10 +115,10 @@ module _ (k : Bounds) (xs tape : List ℕ) (p : Cursor) where
   widen-stops e = sym (bind-ended (widen k xs) _ tape p e)
 
   module _ (ws : List ℕ) {c : Cursor} (w : run (widen k xs) tape p ≡ ran ws c) where
-    pub sides-stop : run (sides k ws) tape c ≡ ended → ended ≡ run (tested k xs) tape p
+    pub sides-stop : run (sidesProduct k ws) tape c ≡ ended → ended ≡ run (tested k xs) tape p
     unfolding tested
-    sides-stop e = sym (bind-ran (widen k xs) _ tape p ws c w ∙ bind-ended (sides k ws) (zeroTest q) tape c e)
+    sides-stop e = sym (bind-ran (widen k xs) _ tape p ws c w ∙ bind-ended (sidesProduct k ws) (zeroTest q) tape c e)
 
-    pub to-zero-test : (ps : List ℕ) {d : Cursor} → run (sides k ws) tape c ≡ ran ps d → run (zeroTest q ps) tape d ≡ run (tested k xs) tape p
+    pub to-zero-test : (ps : List ℕ) {d : Cursor} → run (sidesProduct k ws) tape c ≡ ran ps d → run (zeroTest q ps) tape d ≡ run (tested k xs) tape p
     unfolding tested
-    to-zero-test ps {d} e = sym (bind-ran (widen k xs) _ tape p ws c w ∙ bind-ran (sides k ws) (zeroTest q) tape c ps d e)
+    to-zero-test ps {d} e = sym (bind-ran (widen k xs) _ tape p ws c w ∙ bind-ran (sidesProduct k ws) (zeroTest q) tape c ps d e)

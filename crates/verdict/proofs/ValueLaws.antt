@@ -8,7 +8,6 @@ use Prim.Native.Nat.{ℕ, _*_, _%_, _≤_, _<_}
 use native.Mathlib.Nat.{mod-lt}
 use native.Mathlib.Omega.{arith}
 use lib.ListN.{length, drop}
-use lib.Seq.{drop-append-seam}
 use lib.IntN.{ℤ, natAbs, negℤ}
 use borrow.Author.Tests.{eq-eqb, ne-eqb}
 use Rattle.numbers.specs.Tests.{pick}
@@ -22,7 +21,7 @@ use Rattle.params.specs.declared.Bounds.{Bounds}
 use Rattle.params.specs.Laws.{KindLaws}
 use Rattle.draws.specs.Draws.{Draws, done, bind}
 use Rattle.draws.proofs.Outcomes.{Gives, feed, Fits}
-use Rattle.draws.proofs.PlanLaws.{gives-bind, gives-map, gives-as, always-feed, feed-bind, feed-map, fits-split, FitBoth, fits-length}
+use Rattle.draws.proofs.PlanLaws.{gives-bind, gives-map, gives-as, always-feed, feed-bind, feed-map, FitBoth}
 use Rattle.draws.proofs.RunLaws.{bind-assoc}
 use Rattle.shares.specs.Sharing.{arithmetic, value, takeFromFirst, negated}
 use Rattle.shares.proofs.SharingLaws.{Shares, value-below}
@@ -37,11 +36,11 @@ use Rattle.widening.proofs.StepLaws.{wide-two}
 use Rattle.widening.proofs.ValueLaws.{widen-gives}
 use Rattle.product.specs.Product.{product}
 use Rattle.product.proofs.ValueLaws.{product-gives}
-use Rattle.verdict.specs.Verdict.{side, sides, zeroTest, tested, verdictOf, judged, verdict, sidesPlan, frontPlan, scalesPlan, verdictPlan}
+use Rattle.verdict.specs.Verdict.{side, sidesProduct, zeroTest, tested, verdictOf, judged, verdict, sidesPlan, frontPlan, scalesPlan, verdictPlan}
 use Rattle.verdict.specs.Plain.{accepted, sideOf, leftOf, rightOf, scalarsOf, openedOf}
 use Rattle.verdict.proofs.StepLaws.{bound-wide}
 use Rattle.verdict.proofs.PlainLaws.{rejected-zero, accepted-not-zero}
-use Rattle.verdict.proofs.ZeroLaws.{zero-test-gives, zero-test-feed, scalars-not-zero}
+use Rattle.verdict.proofs.ZeroLaws.{verdict-parts, drop-front, zero-test-gives, zero-test-feed, scalars-not-zero}
 
 -- an outcome in which a number below q was opened, and the verdict that goes with it
 pub record Opens (o : Outcome) : Type 0 where
@@ -53,15 +52,15 @@ module _ {k : Bounds} (h : KindLaws k) {n : ℕ} (few : 0 < n) where
   some : 0 < wide k
   some = omega (arith, wide-two h)
 
-  -- a side of shares of a residue y is the side of any number z with that residue
-  side-gives : (z : ℤ) (ws : List ℕ) → Shares (widened k) n (residue (wide k) z) ws → Gives (Shares (arithmetic q) n (sideOf k z)) (side k ws) (shiftPlan q (k .rho) n)
+  -- a side of widened shares recombines to the side of any number z that has their value for its residue: left to that of z, right to that of −z
+  pub side-gives : (z : ℤ) (ws : List ℕ) → Shares (widened k) n (residue (wide k) z) ws → Gives (Shares (arithmetic q) n (sideOf k z)) (side k ws) (shiftPlan q (k .rho) n)
   unfolding side sideOf
   side-gives z ws a =
       rw (residue-less (wide k) some z (k .a))
       (shift-floor q (k .rho) n _ (takeFromFirst (widened k) (k .a) ws) (omega arith) few (taken-first (widened k) (k .a) some (bound-wide h) few a))
 
-  sides-give : (z : ℤ) (ws : List ℕ) → Shares (widened k) n (residue (wide k) z) ws → Gives (Shares (arithmetic q) n (leftOf k z * rightOf k z % q)) (sides k ws) (sidesPlan k n)
-  unfolding sides sidesPlan leftOf rightOf
+  pub sides-give : (z : ℤ) (ws : List ℕ) → Shares (widened k) n (residue (wide k) z) ws → Gives (Shares (arithmetic q) n (leftOf k z * rightOf k z % q)) (sidesProduct k ws) (sidesPlan k n)
+  unfolding sidesProduct sidesPlan leftOf rightOf
   sides-give z ws a =
       gives-bind _ _ (side-gives z ws a) (λ left l.
       gives-bind _ _ (side-gives (negℤ z) (negated (wide k) ws) (rw (residue-negated (wide k) some z) (negated-value (wide k) some a))) (λ right r.
@@ -73,12 +72,12 @@ module _ {k : Bounds} (h : KindLaws k) {n : ℕ} (few : 0 < n) where
     product : natAbs (centred q x) ≤ k .b → value (arithmetic q) ps ≡ leftOf k (centred q x) * rightOf k (centred q x) % q
 
   front : List ℕ → Draws (List ℕ)
-  front xs = bind (widen k xs) (sides k)
+  front xs = bind (widen k xs) (sidesProduct k)
 
   front-gives : (x : ℕ) (xs : List ℕ) → Shares (arithmetic q) n x xs → Gives (Front x) (front xs) (frontPlan k n)
   unfolding front frontPlan
   front-gives x xs a =
-      gives-bind (sides k) (sidesPlan k n) (widen-gives h n x xs few a) (λ ws w.
+      gives-bind (sidesProduct k) (sidesPlan k n) (widen-gives h n x xs few a) (λ ws w.
       let y : ℕ = value (widened k) ws in
       let z : ℤ = centred (wide k) y in
       let s : Shares (widened k) n y ws = record { words = w .words; is = refl } in
@@ -90,8 +89,8 @@ module _ {k : Bounds} (h : KindLaws k) {n : ℕ} (few : 0 < n) where
   verdict-is : (xs : List ℕ) → verdict k xs ≡ bind (front xs) (λ ps. bind (zeroTest q ps) (λ ts. done (judged (value (arithmetic q) ts))))
   unfolding verdict tested front
   verdict-is xs =
-      ap (λ d. bind d (λ ts. done (judged (value (arithmetic q) ts)))) (sym (bind-assoc (widen k xs) (sides k) (zeroTest q)))
-      ∙ bind-assoc (bind (widen k xs) (sides k)) (zeroTest q) _
+      ap (λ d. bind d (λ ts. done (judged (value (arithmetic q) ts)))) (sym (bind-assoc (widen k xs) (sidesProduct k) (zeroTest q)))
+      ∙ bind-assoc (bind (widen k xs) (sidesProduct k)) (zeroTest q) _
 
   -- the verdict makes the planned draws
   pub verdict-gives : (x : ℕ) (xs : List ℕ) → Shares (arithmetic q) n x xs → Gives Opens (verdict k xs) (verdictPlan k n)
@@ -108,11 +107,10 @@ module _ {k : Bounds} (h : KindLaws k) {n : ℕ} (few : 0 < n) where
     z = centred q x
 
     parts : FitBoth (frontPlan k n) (scalesPlan q n n) rs
-    unfolding verdictPlan
-    parts = fits-split (frontPlan k n) f
+    parts = verdict-parts k n rs f
 
     zero-draws : drop (length (frontPlan k n)) rs ≡ parts .snd
-    zero-draws = ap₂ (λ (m : ℕ) (l : List ℕ). drop m l) (sym (fits-length (parts .fit-fst))) (parts .all) ∙ drop-append-seam (parts .fst) (parts .snd)
+    zero-draws = ap (drop (length (frontPlan k n))) (parts .all) ∙ drop-front (parts .snd) (parts .fit-fst)
 
     -- the verdict opens what its draws make of the number
     pub verdict-feed : feed (verdict k xs) rs ≡ judged (openedOf k n z rs)

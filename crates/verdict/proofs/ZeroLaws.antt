@@ -5,12 +5,14 @@ use mathlib.Core.List.{List, [], _∷_, _++_, append-nil, append-assoc}
 use Prim.Native.Nat.{ℕ, zero, suc, _+_, _-_, _*_, _%_, _≤_, _<_}
 use native.Mathlib.Nat.{mod-eq-of-lt, sub-zero}
 use native.Mathlib.Omega.{arith}
-use lib.ListN.{length, getD, length-append, length-replicate, List·getD-append}
-use lib.Seq.{getD-append-seam}
+use lib.ListN.{length, getD, drop, length-append, length-replicate, List·getD-append}
+use lib.Seq.{drop-append-seam, getD-append-seam}
 use Rattle.numbers.specs.Lists.{Words, fold, sum, along, over}
+use Rattle.numbers.specs.Modulo.{q}
 use Rattle.numbers.specs.Prime.{Prime}
 use Rattle.numbers.proofs.Cong.{Cong, cong-eq, cong-mod, cong-add, cong-mul, cong-refl, cong-sym, via, _⨾_}
 use Rattle.numbers.proofs.PrimeLaws.{no-zero}
+use Rattle.params.specs.declared.Bounds.{Bounds}
 use Rattle.draws.specs.Draws.{turns, each}
 use Rattle.draws.proofs.Outcomes.{Gives, feed, Fits, none-left, one-more}
 use Rattle.draws.proofs.PlanLaws.{gives-draw, gives-rounds, gives-as, always-feed, feed-bind, fits-split, FitBoth, fits-length}
@@ -19,9 +21,17 @@ use Rattle.shares.specs.Sharing.{arithmetic}
 use Rattle.shares.specs.Refresh.{refresh, refreshPlan}
 use Rattle.shares.proofs.SharingLaws.{Shares, value-below}
 use Rattle.shares.proofs.RefreshLaws.{refresh-keeps}
-use Rattle.verdict.specs.Verdict.{scaled, scaleTurn, zeroTest, scalePlan, scalesPlan}
+use Rattle.verdict.specs.Verdict.{scaled, scaleTurn, zeroTest, frontPlan, scalePlan, scalesPlan, verdictPlan}
 use Rattle.verdict.specs.Plain.{scalarOf, scalarsOf}
 use Rattle.verdict.proofs.StepLaws.{scaled-words}
+
+-- the draws of a verdict are those before the zero test, and its own
+pub verdict-parts : (k : Bounds) (n : ℕ) (rs : List ℕ) → Fits (verdictPlan k n) rs → FitBoth (frontPlan k n) (scalesPlan q n n) rs
+unfolding verdictPlan
+verdict-parts k n rs f = fits-split (frontPlan k n) f
+
+pub drop-front : {ms cs : List ℕ} (ds : List ℕ) → Fits ms cs → drop (length ms) (cs ++ ds) ≡ ds
+drop-front {ms} {cs} ds f = ap (λ (m : ℕ). drop m (cs ++ ds)) (sym (fits-length f)) ∙ drop-append-seam cs ds
 
 -- a turn's plan at the end of the others, not before them
 pub scales-last : (M n t : ℕ) → scalesPlan M n (suc t) ≡ scalesPlan M n t ++ scalePlan M n
@@ -88,13 +98,13 @@ module _ {M : ℕ} (c : ℕ) where
 
 module _ {M n : ℕ} (some : 0 < M) (few : 0 < n) where
   -- a turn multiplies the value by its scalar
-  turn-gives : (r i v : ℕ) (xs : List ℕ) → Shares (arithmetic M) n v xs →
+  turn-gives : (r v : ℕ) (xs : List ℕ) → Shares (arithmetic M) n v xs →
       Gives (Shares (arithmetic M) n (v * (r + 1) % M)) (refresh (arithmetic M) (scaled M (r + 1) xs)) (refreshPlan (arithmetic M) n)
-  turn-gives r i v xs a = refresh-keeps (arithmetic M) some (v * (r + 1) % M) (scaled M (r + 1) xs) few (scaled-value (r + 1) some a)
+  turn-gives r v xs a = refresh-keeps (arithmetic M) some (v * (r + 1) % M) (scaled M (r + 1) xs) few (scaled-value (r + 1) some a)
 
   scale-gives : (i : ℕ) (xs : List ℕ) → Words n M xs → Gives (Words n M) (scaleTurn M i xs) (scalePlan M n)
   unfolding scaleTurn scalePlan
-  scale-gives i xs w = gives-draw (λ r l. gives-as (λ ys s. s .words) (turn-gives r i (sum xs % M) xs (record { words = w; is = refl })))
+  scale-gives i xs w = gives-draw (λ r l. gives-as (λ ys s. s .words) (turn-gives r (sum xs % M) xs (record { words = w; is = refl })))
 
   pub scales-give : (t : ℕ) (xs : List ℕ) → Words n M xs → Gives (Words n M) (turns (scaleTurn M) 0 t xs) (scalesPlan M n t)
   unfolding scalesPlan
@@ -108,7 +118,7 @@ module _ {M n : ℕ} (some : 0 < M) (few : 0 < n) where
   turn-feed : (i v r : ℕ) (xs os : List ℕ) → Shares (arithmetic M) n v xs → Fits (refreshPlan (arithmetic M) n) os →
       Shares (arithmetic M) n (v * (r + 1) % M) (feed (scaleTurn M i xs) (r ∷ os))
   unfolding scaleTurn feed
-  turn-feed i v r xs os a f = let g = turn-gives r i v xs a in always-feed (g .plan) (g .always) os f
+  turn-feed i v r xs os a f = let g = turn-gives r v xs a in always-feed (g .plan) (g .always) os f
 
   scales-more : (t v : ℕ) (xs : List ℕ) {rs : List ℕ} → Shares (arithmetic M) n v xs → (b : Scales M n t rs) →
       Shares (arithmetic M) n (v * scalarsOf n (b .before) t % M) (feed (turns (scaleTurn M) 0 t xs) (b .before)) →
@@ -148,3 +158,8 @@ scalars-not-zero {M} prime n (suc t) few rs f =
     subst (λ l. scalarsOf n l (suc t) % M ≢ 0) (sym (b .all))
     (subst (λ (s : ℕ). s % M ≢ 0) (sym (scalars-last few t (b .scalar) (b .before) (b .fresh) (before-length few b)))
     (no-zero prime (scalarsOf n (b .before) t) (b .scalar + 1) ih (λ z. let e : (b .scalar + 1) % M ≡ b .scalar + 1 = mod-eq-of-lt small in omega arith)))
+
+-- so the zero test multiplies the value by a number that is not zero
+pub zero-test-blinds : {M n : ℕ} → Prime M → 0 < n → (v : ℕ) (xs rs : List ℕ) → Shares (arithmetic M) n v xs → Fits (scalesPlan M n n) rs →
+    Shares (arithmetic M) n (v * scalarsOf n rs n % M) (feed (zeroTest M xs) rs) × (scalarsOf n rs n % M ≢ 0)
+zero-test-blinds {n = n} prime few v xs rs a f = (zero-test-feed (omega (arith, prime .more)) few v xs rs a f, scalars-not-zero prime n n few rs f)

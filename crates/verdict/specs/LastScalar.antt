@@ -7,6 +7,6 @@ use Rattle.params.specs.declared.Bounds.{Bounds}
 use Rattle.draws.specs.Anew.{marksAfter}
 use Rattle.verdict.specs.Verdict.{frontPlan, scalesPlan}
 
--- of all turns of the zero test but the last no draw is marked, and of the last turn the first draw alone
+-- of what comes before the zero test and of all its turns but the last no draw is marked, and of the last turn the first draw alone
 unfoldable pub lastScalarMarks : Bounds → ℕ → List Bool
 lastScalarMarks k n = marksAfter (frontPlan k n ++ scalesPlan q n (n - 1)) (true ∷ [])

@@ -20,8 +20,8 @@ unfoldable pub side : Bounds → List ℕ → Draws (List ℕ)
 side k ws = shift q (k .rho) (takeFromFirst (widened k) (k .a) ws)
 
 -- left is that side of the widened shares, right that of all of them negated; left is refreshed mod q, and the two are multiplied mod q
-unfoldable pub sides : Bounds → List ℕ → Draws (List ℕ)
-sides k ws =
+unfoldable pub sidesProduct : Bounds → List ℕ → Draws (List ℕ)
+sidesProduct k ws =
     bind (side k ws) (λ left.
     bind (side k (negated (wide k) ws)) (λ right.
     bind (refresh (arithmetic q) left) (λ fresh.
@@ -41,7 +41,7 @@ zeroTest M xs = each (scaleTurn M) 0 (length xs) xs
 
 -- the shares that are opened
 unfoldable pub tested : Bounds → List ℕ → Draws (List ℕ)
-tested k xs = bind (widen k xs) (λ ws. bind (sides k ws) (zeroTest q))
+tested k xs = bind (widen k xs) (λ ws. bind (sidesProduct k ws) (zeroTest q))
 
 -- zero rejects, all else accepts
 unfoldable pub verdictOf : ℕ → ℕ

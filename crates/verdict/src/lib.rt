@@ -6,7 +6,7 @@ mod zero;
 use params::Bounds;
 use params::Params;
 use shares::Shared;
-use sides::sides;
+use sides::sides_product;
 use tape::Cursor;
 use widening::widen;
 use zero::zero_test;
@@ -17,7 +17,8 @@ ghost use Rattle.draws.specs.Draws.{run};
 ghost use Rattle.shares.specs.Arrays.{Held, Gave};
 ghost use Rattle.verdict.specs.Verdict.{tested};
 
-// The shares that may be opened, their sum being zero just where the number is to be rejected. Who opens them has no others in hand.
+// The shares that may be opened: within the reach, their sum is zero just where the number is to be rejected. The promise is on the shares, since the
+// sum, which is all that a caller sees, would be the same without the refreshes.
 pub fn tested_shares(
     shares: [u32; Params::MOST],
     n: usize,
@@ -34,7 +35,7 @@ pub fn tested_shares(
     }
     let x = widened.words;
     let c = widened.cursor;
-    let product = sides(x, n, k, c, tape);
+    let product = sides_product(x, n, k, c, tape);
     if !product.ok {
         return Shared::ended();
     }

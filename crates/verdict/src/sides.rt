@@ -18,7 +18,7 @@ ghost use Rattle.draws.specs.Draws.{run};
 ghost use Rattle.shares.specs.Sharing.{negated};
 ghost use Rattle.shares.specs.Arrays.{Held, Gave};
 ghost use Rattle.widening.specs.Widening.{wide};
-ghost use Rattle.verdict.specs.Verdict.{side, sides};
+ghost use Rattle.verdict.specs.Verdict.{side, sidesProduct};
 
 fn negated(shares: [u32; Params::MOST], m: u32) -> [u32; Params::MOST]
     requires { ⌜ Words 8 m shares ⌝ }
@@ -39,7 +39,7 @@ fn side(shares: [u32; Params::MOST], n: usize, k: Bounds, cursor: Cursor, tape: 
     shift_by(words, n, Params::Q, k.rho, cursor, tape)
 }
 
-pub fn sides(
+pub fn sides_product(
     shares: [u32; Params::MOST],
     n: usize,
     k: Bounds,
@@ -47,7 +47,7 @@ pub fn sides(
     tape: &[u32],
 ) -> Shared
     requires { ⌜ KindLaws k × Held 8 n (wide k) shares ⌝ }
-    ensures { λ r. ⌜ Gave n q r (run (sides k (take n shares)) (now (tape .entry)) cursor) ⌝ }
+    ensures { λ r. ⌜ Gave n q r (run (sidesProduct k (take n shares)) (now (tape .entry)) cursor) ⌝ }
 {
     let left = side(shares, n, k, cursor, tape);
     if !left.ok {

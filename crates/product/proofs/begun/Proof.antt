@@ -1,11 +1,11 @@
 use borrow.Author.Needs.{needs}
-use Rattle.product.proofs.begun.Statement.{statement}
-use Rattle.product.proofs.begun.Tie as tie
 use Prim.Native.Nat.{_-_, _*_, _%_}
 use lib.ListN.{getD}
 use Rattle.numbers.specs.Modulo.{q}
 use Rattle.numbers.proofs.AlongLaws.{Along, along-start, along-more, along-all}
 use Rattle.product.specs.Product.{begun}
+use Rattle.product.proofs.begun.Statement.{statement}
+use Rattle.product.proofs.begun.Tie as tie
 
 abbrev Inv-loop : tie.InvT-loop
 Inv-loop r words₀ i₀ words i = Along 8 (λ j x. x * getD r j 0 % q) words₀ i words

@@ -1,12 +1,10 @@
 use borrow.Author.Needs.{needs}
-use Rattle.product.proofs.cross_less.Statement.{statement}
-use Rattle.product.proofs.cross_less.Tie as tie
-use Prim.Native.Nat.{_-_}
-use native.Mathlib.Omega.{arith}
-use Rattle.product.proofs.StepLaws.{times-most}
 use mathlib.Core.Path.{_∙_}
 use Prim.Native.Nat.{_-_}
+use native.Mathlib.Omega.{arith}
 use Rattle.product.proofs.StepLaws.{times-most, less-is}
+use Rattle.product.proofs.cross_less.Statement.{statement}
+use Rattle.product.proofs.cross_less.Tie as tie
 
 mul-reduce-q : tie.Need-mul-reduce-q
 mul-reduce-q c = let h = c .pre in omega (arith, times-most (h .0) (h .1))

@@ -1,24 +1,14 @@
 use borrow.Author.Needs.{needs}
-use Rattle.product.proofs.crossed.Statement.{statement}
-use Rattle.product.proofs.crossed.Tie as tie
+use mathlib.Core.Path.{ap, _∙_}
 use Prim.Native.Nat.{_-_}
 use native.Mathlib.Omega.{arith}
-use Rattle.numbers.proofs.WordsLaws.{words-at}
-use mathlib.Core.Path.{ap, _∙_}
-use Prim.Native.Nat.{_-_}
-use Rattle.numbers.specs.Modulo.{q, addMod}
-use Rattle.product.proofs.StepLaws.{crossed-stored, less-below}
-use mathlib.Core.Path.{ap, _∙_}
-use Prim.Native.Nat.{_-_}
-use Rattle.numbers.specs.Modulo.{q, addMod}
-use mathlib.Core.Path.{ap, _∙_}
-use Prim.Native.Nat.{_-_}
-use Rattle.numbers.specs.Modulo.{q, addMod}
-use Rattle.product.proofs.StepLaws.{crossed-stored, less-below}
 use lib.Seq.{getD-set-other}
-use mathlib.Core.Path.{ap, _∙_}
-use Prim.Native.Nat.{_-_}
 use Rattle.numbers.specs.Modulo.{q, addMod}
+use Rattle.numbers.proofs.WordsLaws.{words-at}
+use Rattle.numbers.proofs.GroupLaws.{sub-small}
+use Rattle.product.proofs.StepLaws.{crossed-stored}
+use Rattle.product.proofs.crossed.Statement.{statement}
+use Rattle.product.proofs.crossed.Tie as tie
 
 mul-add-mod : tie.Need-mul-add-mod
 mul-add-mod c = search needs
@@ -72,7 +62,7 @@ add-mod-requires-2 : tie.Need-add-mod-requires-2
 add-mod-requires-2 c κs = let a = c .before in
     let s = a .before in
     let (l, h, v, w, x, y) = s .pre in
-    (rw (getD-set-other (s .args .shares) (s .args .i) (s .args .j) _ 0 (omega (arith, l))) (words-at (omega arith) w _), less-below _ _ (omega arith) (c .cross-less .ensures))
+    (rw (getD-set-other (s .args .shares) (s .args .i) (s .args .j) _ 0 (omega (arith, l))) (words-at (omega arith) w _), rw (c .cross-less .ensures) (sub-small q _ _ (omega arith)))
 
 mul-words-2 : tie.Need-mul-words-2
 mul-words-2 c = search needs

@@ -1,6 +1,4 @@
 use borrow.Author.Needs.{needs}
-use Rattle.product.proofs.product.Statement.{statement}
-use Rattle.product.proofs.product.Tie as tie
 use mathlib.Core.Path.{refl}
 use Prim.Native.Nat.{_-_}
 use lib.ListN.{take}
@@ -11,6 +9,8 @@ use Rattle.shares.proofs.ArraysLaws.{gave, stopped, whole, cut-off}
 use Rattle.shares.proofs.LoopLaws.{Looping, looping-done, looping-ended, looping-more}
 use Rattle.product.specs.Product.{row, product}
 use Rattle.product.proofs.StepLaws.{product-start}
+use Rattle.product.proofs.product.Statement.{statement}
+use Rattle.product.proofs.product.Tie as tie
 
 abbrev Inv-loop : tie.InvT-loop
 Inv-loop l r n tape words₀ cur₀ i₀ words cur i = Looping (row q (take n l) (take n r)) n 8 n q tape (run (product q (take n l) (take n r)) tape cur₀) i words cur

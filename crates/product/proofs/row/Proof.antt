@@ -1,6 +1,4 @@
 use borrow.Author.Needs.{needs}
-use Rattle.product.proofs.row.Statement.{statement}
-use Rattle.product.proofs.row.Tie as tie
 use mathlib.Core.Path.{refl}
 use Prim.Native.Nat.{_-_}
 use native.Mathlib.Omega.{arith}
@@ -10,21 +8,9 @@ use Rattle.draws.specs.Draws.{run}
 use Rattle.shares.proofs.ArraysLaws.{whole, cut-off}
 use Rattle.shares.proofs.LoopLaws.{looping-done}
 use Rattle.product.specs.Product.{row}
-use mathlib.Core.Path.{refl}
-use Prim.Native.Nat.{_-_}
-use lib.ListN.{take}
-use mathlib.Core.Path.{refl}
-use Prim.Native.Nat.{_-_}
-use lib.ListN.{take}
-use Rattle.shares.proofs.LoopLaws.{looping-done}
-use Rattle.product.specs.Product.{row}
 use Rattle.product.proofs.StepLaws.{Crossing, crossing-start, crossing-ended, crossing-draw, crossing-more}
-use mathlib.Core.Path.{refl}
-use Prim.Native.Nat.{_-_}
-use lib.ListN.{take}
-use mathlib.Core.Path.{refl}
-use Prim.Native.Nat.{_-_}
-use lib.ListN.{take}
+use Rattle.product.proofs.row.Statement.{statement}
+use Rattle.product.proofs.row.Tie as tie
 
 abbrev Inv-loop : tie.InvT-loop
 Inv-loop l r i n tape words₀ cur₀ j₀ words cur j = Crossing q n l r i tape (run (row q (take n l) (take n r) i (take n words₀)) tape cur₀) j words cur

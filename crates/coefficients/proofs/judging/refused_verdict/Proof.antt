@@ -1,8 +1,8 @@
-use Rattle.coefficients.proofs.judging.refused_verdict.Statement.{statement}
-use Rattle.coefficients.proofs.judging.refused_verdict.Tie as tie
 use mathlib.Core.Path.{refl}
 use Rattle.gate.specs.Told.{refusal}
 use Rattle.coefficients.specs.Answers.{judgedStandsFor}
+use Rattle.coefficients.proofs.judging.refused_verdict.Statement.{statement}
+use Rattle.coefficients.proofs.judging.refused_verdict.Tie as tie
 
 returns : tie.Need-returns
 unfolding refusal judgedStandsFor

@@ -1,22 +1,22 @@
 use borrow.Author.Needs.{needs}
-use Rattle.coefficients.proofs.judging.verdict.Statement.{statement}
-use Rattle.coefficients.proofs.judging.verdict.Tie as tie
 use mathlib.Core.Path.{_≡_, refl, sym, ap, _∙_}
+use mathlib.Core.Bool.{true}
 use lib.ListN.{length}
 use denote.Ref.{now}
 use Rattle.numbers.specs.Modulo.{q}
-use Rattle.tape.specs.Tape.{start}
-use Rattle.draws.specs.Draws.{run}
-use mathlib.Core.Bool.{true}
 use Rattle.params.specs.declared.Params.{Params}
 use Rattle.params.specs.Sets.{known, ofKind}
 use Rattle.params.proofs.SetLaws.{kind-laws}
+use Rattle.tape.specs.Tape.{start}
+use Rattle.draws.specs.Draws.{run}
 use Rattle.gate.specs.Checks.{firstFailing, checks}
 use Rattle.gate.proofs.CheckLaws.{both-left, Passed, all-passed, checked}
 use Rattle.gate.proofs.AdmitLaws.{not-admitted, Good, good}
 use Rattle.gate.proofs.GadgetLaws.{judge-checks, judge-refused, judge-ran}
 use Rattle.verdict.specs.Verdict.{verdict}
 use Rattle.coefficients.specs.Coefficients.{kindRange, verdictGadget}
+use Rattle.coefficients.proofs.judging.verdict.Statement.{statement}
+use Rattle.coefficients.proofs.judging.verdict.Tie as tie
 
 -- the first check that failed, the parameters being in range or not
 number : (c : tie.After-first-failing) →
@@ -71,7 +71,7 @@ returns c = let k = c .before .before in
     let m = k .before .before in
     let a = m .before .before .before .before .before .args in
     let (e, h) = not-admitted _ _ (set-known (m .before)) _ (m .admit .ensures) (k .k .given .1) in
-    judge-refused _ (now (a .shares)) (now (a .tape)) (e ∙ number (m .before) ∙ judge-checks (verdictGadget (a .set) (a .kind)) (now (a .shares)) (now (a .tape))) h (c .refused-verdict .ensures)
+    judge-refused _ (now (a .shares)) (now (a .tape)) (e ∙ number (m .before) ∙ judge-checks (verdictGadget (a .set) (a .kind)) (now (a .shares))) h (c .refused-verdict .ensures)
 
 returns-2 : tie.Need-returns-2
 unfolding verdictGadget
@@ -80,7 +80,7 @@ returns-2 c = let o = c .before in
     let m = p .before .before in
     let a = m .before .before .before .before .before .args in
     let g = admitted p in
-    judge-ran _ (now (a .shares)) (now (a .tape)) (sym (g .passes ∙ number (m .before) ∙ judge-checks (verdictGadget (a .set) (a .kind)) (now (a .shares)) (now (a .tape)))) (c .verdict-by .ensures)
+    judge-ran _ (now (a .shares)) (now (a .tape)) (sym (g .passes ∙ number (m .before) ∙ judge-checks (verdictGadget (a .set) (a .kind)) (now (a .shares)))) (c .verdict-by .ensures)
     (ap (λ k. run (verdict k (now (a .shares))) (now (a .tape)) start) (o .of-kind .ensures ∙ ap (λ (p : Params). ofKind p (a .kind)) (g .constants)))
 
 pub verdict-spec : {M : Type 1} → statement M

@@ -1,6 +1,4 @@
 use borrow.Author.Needs.{needs}
-use Rattle.coefficients.proofs.judging.verdict_by.Statement.{statement}
-use Rattle.coefficients.proofs.judging.verdict_by.Tie as tie
 use mathlib.Core.Path.{refl, ap₂, _∙_}
 use native.Mathlib.Omega.{arith}
 use lib.ListN.{length}
@@ -14,6 +12,8 @@ use Rattle.shares.proofs.ArraysLaws.{given-as, gave, stopped}
 use Rattle.gate.proofs.GadgetLaws.{held, held-given}
 use Rattle.verdict.specs.Verdict.{tested}
 use Rattle.coefficients.proofs.JudgeLaws.{judged-ended, judged-ran}
+use Rattle.coefficients.proofs.judging.verdict_by.Statement.{statement}
+use Rattle.coefficients.proofs.judging.verdict_by.Tie as tie
 
 -- of the caller's shares, from the tape's start
 of-caller : (c : tie.After-tested-shares) →

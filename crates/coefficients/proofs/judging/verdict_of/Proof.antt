@@ -1,7 +1,7 @@
-use Rattle.coefficients.proofs.judging.verdict_of.Statement.{statement}
-use Rattle.coefficients.proofs.judging.verdict_of.Tie as tie
 use borrow.Author.Tests.{eq-eqb, ne-eqb}
 use Rattle.verdict.specs.Verdict.{verdictOf}
+use Rattle.coefficients.proofs.judging.verdict_of.Statement.{statement}
+use Rattle.coefficients.proofs.judging.verdict_of.Tie as tie
 
 returns : tie.Need-returns
 unfolding verdictOf

@@ -1,6 +1,4 @@
 use borrow.Author.Needs.{needs}
-use Rattle.verdict.proofs.sides.side.Statement.{statement}
-use Rattle.verdict.proofs.sides.side.Tie as tie
 use mathlib.Core.Path.{_≡_, ap, _∙_}
 use Prim.Native.Nat.{_-_}
 use native.Mathlib.Omega.{arith}
@@ -16,9 +14,8 @@ use Rattle.shift.specs.Shift.{shift}
 use Rattle.widening.specs.Widening.{widened}
 use Rattle.verdict.specs.Verdict.{side}
 use Rattle.verdict.proofs.StepLaws.{bound-wide, side-held}
-use mathlib.Core.Path.{_≡_, ap, _∙_}
-use Prim.Native.Nat.{_-_}
-use lib.ListN.{take}
+use Rattle.verdict.proofs.sides.side.Statement.{statement}
+use Rattle.verdict.proofs.sides.side.Tie as tie
 
 first : (c : tie.After-take-from-first) →
     let a = c .before .before .before .args in

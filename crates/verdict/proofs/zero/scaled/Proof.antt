@@ -1,10 +1,10 @@
 use borrow.Author.Needs.{needs}
-use Rattle.verdict.proofs.zero.scaled.Statement.{statement}
-use Rattle.verdict.proofs.zero.scaled.Tie as tie
 use Prim.Native.Nat.{_-_, _*_, _%_}
 use Rattle.numbers.specs.Modulo.{q}
 use Rattle.numbers.proofs.AlongLaws.{Along, along-start, along-more, along-all}
 use Rattle.verdict.specs.Verdict.{scaled}
+use Rattle.verdict.proofs.zero.scaled.Statement.{statement}
+use Rattle.verdict.proofs.zero.scaled.Tie as tie
 
 abbrev Inv-loop : tie.InvT-loop
 Inv-loop c words₀ i₀ words i = Along 8 (λ j x. x * c % q) words₀ i words

@@ -1,6 +1,4 @@
 use borrow.Author.Needs.{needs}
-use Rattle.verdict.proofs.zero.zero_test.Statement.{statement}
-use Rattle.verdict.proofs.zero.zero_test.Tie as tie
 use mathlib.Core.Path.{refl}
 use Prim.Native.Nat.{_-_}
 use native.Mathlib.Omega.{arith}
@@ -12,14 +10,8 @@ use Rattle.shares.proofs.ArraysLaws.{gave, stopped, whole, cut-off}
 use Rattle.shares.proofs.LoopLaws.{Looping, looping-done}
 use Rattle.verdict.specs.Verdict.{scaleTurn, zeroTest}
 use Rattle.verdict.proofs.StepLaws.{zero-start, zero-ended, scalar-below, zero-held, zero-stopped, zero-more}
-use mathlib.Core.Path.{refl}
-use Prim.Native.Nat.{_-_}
-use lib.ListN.{take}
-use Rattle.shares.proofs.ArraysLaws.{gave, stopped, whole, cut-off}
-use mathlib.Core.Path.{refl}
-use Prim.Native.Nat.{_-_}
-use lib.ListN.{take}
-use Rattle.shares.proofs.ArraysLaws.{gave, stopped, whole, cut-off}
+use Rattle.verdict.proofs.zero.zero_test.Statement.{statement}
+use Rattle.verdict.proofs.zero.zero_test.Tie as tie
 
 abbrev Inv-loop : tie.InvT-loop
 Inv-loop n tape words₀ cur₀ counter₀ words cur counter = Looping (scaleTurn q) n 8 n q tape (run (zeroTest q (take n words₀)) tape cur₀) counter words cur

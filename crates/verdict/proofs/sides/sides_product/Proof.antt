@@ -1,6 +1,4 @@
 use borrow.Author.Needs.{needs}
-use Rattle.verdict.proofs.sides.sides.Statement.{statement}
-use Rattle.verdict.proofs.sides.sides.Tie as tie
 use mathlib.Core.Path.{_≡_, ap, _∙_}
 use Prim.Native.Nat.{_-_}
 use native.Mathlib.Omega.{arith}
@@ -17,16 +15,8 @@ use Rattle.shares.proofs.NegatedLaws.{negated-take, negated-words}
 use Rattle.widening.specs.Widening.{wide}
 use Rattle.verdict.specs.Verdict.{side}
 use Rattle.verdict.proofs.StepLaws.{left-ended, right-ended, fresh-ended, to-product}
-use mathlib.Core.Path.{_≡_, ap, _∙_}
-use Prim.Native.Nat.{_-_}
-use lib.ListN.{take}
-use Rattle.shares.specs.Sharing.{negated}
-use Rattle.shares.proofs.ArraysLaws.{held-of, held-below, given-as, gave, stopped, cut-off}
-use mathlib.Core.Path.{_≡_, ap, _∙_}
-use Prim.Native.Nat.{_-_}
-use lib.ListN.{take}
-use Rattle.shares.specs.Sharing.{negated}
-use Rattle.shares.proofs.ArraysLaws.{held-of, held-below, given-as, gave, stopped, cut-off}
+use Rattle.verdict.proofs.sides.sides_product.Statement.{statement}
+use Rattle.verdict.proofs.sides.sides_product.Tie as tie
 
 left : (c : tie.Else1) →
     let l = c .before .before in
@@ -110,8 +100,8 @@ returns-4 c = let j = c .before .before .before in
     let e = r .before .before .before .before .before in
     given-as (c .product .ensures) (to-product (e .before .before .before .before .args .k) _ _ _ _ (left e) _ (gave (right r) (i .if2 .left)) _ (gave (f .refresh .ensures) (j .if3 .left)))
 
-pub sides-spec : {M : Type 1} → statement M
-sides-spec =
+pub sides-product-spec : {M : Type 1} → statement M
+sides-product-spec =
     tie.close
     (tie.spec
     side-requires
