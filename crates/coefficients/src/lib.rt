@@ -44,8 +44,8 @@ pub struct Decomposed {
     pub used: usize,
 }
 
-// What the verdict answers: 0, or the number of a refusal; 1 where the number is accepted and 0 where it is rejected; what was opened, and how
-// many tape words were read. In a refusal all but the number are 0.
+// What the verdict answers: `number`, 0 or that of a refusal; `verdict`, 1 where the coefficient is accepted and 0 where it is rejected; what was
+// opened, and how many tape words were read. In a refusal all but `number` are 0.
 pub struct Judged {
     pub number: u32,
     pub verdict: u32,

@@ -1,5 +1,5 @@
 -- What is claimed of the verdict (document 01, "Steps" and "What a caller gets back"): what it opens, and that within the reach it accepts exactly the
--- numbers whose size is below the bound. Outside the reach the steps still fix the answer, and no range is claimed.
+-- numbers whose size is below the bound. Of a number beyond the reach it is only said that the answer is that of the steps.
 use mathlib.Core.Path.{_≡_}
 use mathlib.Core.List.{List, [], _∷_}
 use Prim.Native.Nat.{ℕ, _≤_, _<_}

@@ -21,7 +21,7 @@ pub record WorkedVerdict : Type 0 where
   -- 21 · 19 is 9 mod 10, and so is the sum. 12 is skipped; of the draws 3, 7, 9, 1, 4, 6 the first three belong to pairs of the first share, so the order of
   -- the pairs shows
   pub multiplied : run (product 10 (3 ∷ 7 ∷ 2 ∷ 9 ∷ []) (4 ∷ 1 ∷ 8 ∷ 6 ∷ [])) (3 ∷ 12 ∷ 7 ∷ 9 ∷ 1 ∷ 4 ∷ 6 ∷ []) start ≡ ran (1 ∷ 0 ∷ 4 ∷ 4 ∷ []) (record { at = 7 })
-  -- the shares that are opened of 130993, the largest number that is accepted. The draws of the two sides, of the refresh of left, of the pair and of the
+  -- the shares that are opened of 130993, the largest number within the reach that is accepted. The draws of the two sides, of the refresh of left, of the pair and of the
   -- two turns of the zero test show in them; 8380416 and 8380417 are skipped, so the scalars are 43 and 57
   pub tested-shares : run (tested (kindOf 44 1) (5000000 ∷ 3511410 ∷ [])) verdictTape start ≡ ran (3891065 ∷ 6999176 ∷ []) (record { at = 26 })
   -- so their sum is opened, and it is accepted
@@ -30,7 +30,7 @@ pub record WorkedVerdict : Type 0 where
   pub judged-large : judges (verdictGadget 44 1) (5000000 ∷ 3511411 ∷ []) verdictTape ≡ record { number = 0; opened = 0 ∷ 0 ∷ []; used = 26; out = [] }
   -- without the last word nothing is shown
   pub judged-short : judges (verdictGadget 44 1) (5000000 ∷ 3511410 ∷ []) (take 25 verdictTape) ≡ record { number = 5; opened = 0 ∷ 0 ∷ []; used = 0; out = [] }
-  -- beyond the reach nothing is claimed: −131151 is rejected in some shares and accepted in others
+  -- beyond the reach it is not claimed which: −131151 is rejected in these shares and accepted in those
   pub beyond-rejected : judges (verdictGadget 44 1) (8249266 ∷ 0 ∷ []) verdictTape .opened ≡ 0 ∷ 0 ∷ []
   pub beyond-accepted : judges (verdictGadget 44 1) (1963954 ∷ 6285312 ∷ []) verdictTape .opened ≡ 1 ∷ 3446274 ∷ []
   -- 24 draws with two shares, 1079 with eight

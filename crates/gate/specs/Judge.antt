@@ -14,7 +14,7 @@ pub record Judge : Type 0 where
   pub inRange : Bool
   -- how its input is shared
   pub input : Sharing
-  -- how many numbers it tells beside the words used
+  -- how many numbers it tells beside the number of a refusal and the words used
   pub fields : ℕ
   -- its steps, to those numbers; an outcome of theirs has no shares
   pub steps : List ℕ → Draws Outcome

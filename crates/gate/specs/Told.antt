@@ -18,7 +18,7 @@ pub record Told : Type 0 where
   pub used : ℕ
   pub out : List ℕ
 
--- a refusal returns 0 in every other field
+-- a refusal: its number, and 0 for all else that is told
 unfoldable pub refusal : ℕ → ℕ → List ℕ → Told
 refusal fields number out = record { number = number; opened = replicate fields 0; used = 0; out = out }
 

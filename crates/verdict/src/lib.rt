@@ -1,5 +1,5 @@
-// The verdict: whether the number in the shares is small enough, found without holding it. Both sides of it are multiplied, and only the product,
-// blinded by random scalars, is opened.
+// The verdict: whether the number in the shares is small enough. Both sides of it are multiplied in shares, and only the product, multiplied by random
+// scalars, is opened.
 mod sides;
 mod zero;
 

@@ -1,4 +1,4 @@
-// The zero test: random scalars that are not zero leave of a value only whether it is zero.
+// The zero test: a value is multiplied by random scalars that are not zero, so that zero stays zero and nothing else becomes it.
 use params::Params;
 use shares::Shared;
 use shares::refresh;
