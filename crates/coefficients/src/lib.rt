@@ -38,6 +38,7 @@ ghost use Rattle.coefficients.specs.Coefficients.{kindRange, widenGadget
 ghost use Rattle.coefficients.specs.Answers.{partsStandFor};
 
 // What Decompose answers: 0, or the number of a refusal; the high part, and how many tape words were read, both 0 in a refusal.
+#[repr(C)]
 pub struct Decomposed {
     pub number: u32,
     pub high: u32,
@@ -46,6 +47,7 @@ pub struct Decomposed {
 
 // What the verdict answers: `number`, 0 or that of a refusal; `verdict`, 1 where the coefficient is accepted and 0 where it is rejected; what was
 // opened, and how many tape words were read. In a refusal all but `number` are 0.
+#[repr(C)]
 pub struct Judged {
     pub number: u32,
     pub verdict: u32,

@@ -15,6 +15,7 @@ ghost use Rattle.gate.specs.Admission.{admittedStandsFor, admission};
 ghost use Rattle.gate.specs.Told.{refusal, silentRan, ranTold, standsFor};
 
 // What a caller gets back: 0, or the number of a refusal; and how many tape words were read, 0 in a refusal.
+#[repr(C)]
 pub struct Answer {
     pub number: u32,
     pub used: usize,
