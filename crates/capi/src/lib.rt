@@ -22,14 +22,25 @@ pub extern "C" fn xe_refresh(shares: &[u32], tape: &[u32], modulus: u32, out: &m
 }
 
 #[no_mangle]
-pub extern "C" fn xe_refresh_boolean(shares: &[u32], tape: &[u32], width: u32, out: &mut [u32]) -> Answer
+pub extern "C" fn xe_refresh_boolean(
+    shares: &[u32],
+    tape: &[u32],
+    width: u32,
+    out: &mut [u32],
+) -> Answer
     ensures { λ r. ⌜ standsFor r (now (out .exit)) ≡ tells (booleanGadget width) (now (shares .entry)) (now (tape .entry)) (now (out .entry)) ⌝ }
 {
     gadgets::refresh_boolean(shares, tape, width, out)
 }
 
 #[no_mangle]
-pub extern "C" fn xe_shift(shares: &[u32], tape: &[u32], modulus: u32, t: u32, out: &mut [u32]) -> Answer
+pub extern "C" fn xe_shift(
+    shares: &[u32],
+    tape: &[u32],
+    modulus: u32,
+    t: u32,
+    out: &mut [u32],
+) -> Answer
     ensures { λ r. ⌜ standsFor r (now (out .exit)) ≡ tells (shiftGadget modulus t) (now (shares .entry)) (now (tape .entry)) (now (out .entry)) ⌝ }
 {
     gadgets::shift(shares, tape, modulus, t, out)
@@ -71,14 +82,25 @@ pub extern "C" fn xe_sample_polynomial(tape: &[u32], n: usize, set: u32, out: &m
 }
 
 #[no_mangle]
-pub extern "C" fn xe_widen(shares: &[u32], tape: &[u32], set: u32, kind: u32, out: &mut [u32]) -> Answer
+pub extern "C" fn xe_widen(
+    shares: &[u32],
+    tape: &[u32],
+    set: u32,
+    kind: u32,
+    out: &mut [u32],
+) -> Answer
     ensures { λ r. ⌜ standsFor r (now (out .exit)) ≡ tells (widenGadget set kind) (now (shares .entry)) (now (tape .entry)) (now (out .entry)) ⌝ }
 {
     gadgets::widen(shares, tape, set, kind, out)
 }
 
 #[no_mangle]
-pub extern "C" fn xe_decompose(shares: &[u32], tape: &[u32], set: u32, out: &mut [u32]) -> Decomposed
+pub extern "C" fn xe_decompose(
+    shares: &[u32],
+    tape: &[u32],
+    set: u32,
+    out: &mut [u32],
+) -> Decomposed
     ensures { λ r. ⌜ partsStandFor r (now (out .exit)) ≡ tells (decomposeGadget set) (now (shares .entry)) (now (tape .entry)) (now (out .entry)) ⌝ }
 {
     gadgets::decompose(shares, tape, set, out)
@@ -89,4 +111,12 @@ pub extern "C" fn xe_verdict(shares: &[u32], tape: &[u32], set: u32, kind: u32) 
     ensures { λ r. ⌜ judgedStandsFor r ≡ judges (verdictGadget set kind) (now (shares .entry)) (now (tape .entry)) ⌝ }
 {
     gadgets::verdict(shares, tape, set, kind)
+}
+
+// The cases by hand of document 01, on this device: 0, or the number of the first that came out wrong.
+#[no_mangle]
+pub extern "C" fn xe_self_test() -> u32
+    ensures { λ r. ⌜ r ≡ 0 ⌝ }
+{
+    selftest::self_test()
 }

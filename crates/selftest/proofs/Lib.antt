@@ -1,0 +1,2 @@
+mod HeldLaws
+mod CaseLaws
