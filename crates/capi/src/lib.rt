@@ -1,4 +1,8 @@
 // The library's face for C: include/xechanopu.h declares what is exported here.
+mod cases;
+mod held;
+mod selftest;
+
 use gadgets::Answer;
 use gadgets::Decomposed;
 use gadgets::Judged;
@@ -118,5 +122,5 @@ pub extern "C" fn xe_verdict(shares: &[u32], tape: &[u32], set: u32, kind: u32) 
 pub extern "C" fn xe_self_test() -> u32
     ensures { λ r. ⌜ r ≡ 0 ⌝ }
 {
-    selftest::self_test()
+    selftest::first_wrong()
 }
