@@ -1,23 +1,11 @@
-//! An independent second of the library, written from document 01. It is told the name of a program and prints the lines that this
-//! program has to print: of `cases`, from the calls that docs/CASES.md lists, made on the second itself; of `residues`, from FIPS
-//! 204's Decompose.
+//! The second is told the name of a program and prints the lines that this program has to print: of `cases`, from the calls that
+//! docs/CASES.md lists, made on the second itself; of `residues`, from FIPS 204's Decompose.
 
-mod coefficients;
-mod conversions;
-mod inputs;
-mod library;
-mod parameters;
-mod residues;
-mod sampling;
-mod sets;
-mod steps;
-mod tape;
-mod verdict;
-
-use inputs::{Gadget, Input};
-use library::Answer;
-use parameters::Pair;
-use tape::Tape;
+use second::inputs::{self, Gadget, Input};
+use second::library::Answer;
+use second::parameters::Pair;
+use second::tape::Tape;
+use second::{residues, sets, steps};
 
 #[derive(Default)]
 struct Tally {
