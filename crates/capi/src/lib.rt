@@ -1,8 +1,4 @@
 // The library's face for C: include/xechanopu.h declares what is exported here.
-mod cases;
-mod held;
-mod selftest;
-
 use gadgets::Answer;
 use gadgets::Decomposed;
 use gadgets::Judged;
@@ -11,12 +7,15 @@ ghost use Rattle.gate.specs.Told.{standsFor};
 ghost use Rattle.gate.specs.Gadget.{tells};
 ghost use Rattle.gate.specs.Sampler.{samples};
 ghost use Rattle.gate.specs.Judge.{judges};
-ghost use Rattle.gadgets.specs.Refresh.{refreshGadget, booleanGadget};
-ghost use Rattle.gadgets.specs.Shift.{shiftGadget, toBooleanGadget};
-ghost use Rattle.gadgets.specs.Convert.{toArithmeticGadget, toModQGadget};
+ghost use Rattle.refreshes.specs.Refresh.{refreshGadget, booleanGadget};
+ghost use Rattle.shifts.specs.Shift.{shiftGadget, toBooleanGadget};
+ghost use Rattle.conversions.specs.Convert.{toArithmeticGadget, toModQGadget};
 ghost use Rattle.samplers.specs.Samplers.{sampler, polynomialSampler};
-ghost use Rattle.coefficients.specs.Coefficients.{widenGadget, decomposeGadget, verdictGadget};
-ghost use Rattle.coefficients.specs.Answers.{partsStandFor, judgedStandsFor};
+ghost use Rattle.widens.specs.Widen.{widenGadget};
+ghost use Rattle.decomposes.specs.Decompose.{decomposeGadget};
+ghost use Rattle.judges.specs.Verdict.{verdictGadget};
+ghost use Rattle.decomposes.specs.Answers.{partsStandFor};
+ghost use Rattle.judges.specs.Answers.{judgedStandsFor};
 
 #[no_mangle]
 pub extern "C" fn xe_refresh(shares: &[u32], tape: &[u32], modulus: u32, out: &mut [u32]) -> Answer
@@ -122,5 +121,5 @@ pub extern "C" fn xe_verdict(shares: &[u32], tape: &[u32], set: u32, kind: u32) 
 pub extern "C" fn xe_self_test() -> u32
     ensures { λ r. ⌜ r ≡ 0 ⌝ }
 {
-    selftest::first_wrong()
+    selftest::self_test()
 }

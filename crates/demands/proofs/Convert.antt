@@ -22,7 +22,7 @@ use Rattle.switching.specs.ToModulus.{toModulusPlan}
 use Rattle.switching.proofs.ValueLaws.{to-modulus-keeps}
 use Rattle.gate.specs.Told.{standsFor, silent}
 use Rattle.gate.specs.Gadget.{silentSteps, tells}
-use Rattle.gadgets.specs.Convert.{toArithmeticGadget, toModQGadget}
+use Rattle.conversions.specs.Convert.{toArithmeticGadget, toModQGadget}
 use Rattle.demands.specs.Claim.{plan}
 use Rattle.demands.specs.Demands.{Demands}
 use Rattle.demands.specs.Unique.{Unique}

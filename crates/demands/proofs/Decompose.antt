@@ -20,8 +20,8 @@ use Rattle.shift.proofs.FloorLaws.{shift-draws}
 use Rattle.gate.specs.Gadget.{tells}
 use Rattle.decompose.specs.Decompose.{highPlan}
 use Rattle.decompose.proofs.ValueLaws.{decompose-gives}
-use Rattle.coefficients.specs.Coefficients.{decomposeGadget}
-use Rattle.coefficients.specs.Answers.{partsStandFor}
+use Rattle.decomposes.specs.Decompose.{decomposeGadget}
+use Rattle.decomposes.specs.Answers.{partsStandFor}
 use Rattle.demands.specs.Claim.{plan}
 use Rattle.demands.specs.Demands.{Demands}
 use Rattle.demands.specs.Unique.{Unique}

@@ -16,6 +16,3 @@ pub mod Sample
 pub mod Widen
 pub mod Decompose
 pub mod Verdict
-pub mod Cases
-pub mod Worked
-pub mod WorkedVerdict

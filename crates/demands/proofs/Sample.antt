@@ -15,7 +15,7 @@ use Rattle.sample.specs.Sampling.{maskPlan, coefficientPlan, polynomialPlan}
 use Rattle.sample.proofs.ValueLaws.{coefficient-gives, polynomial-gives}
 use Rattle.sample.proofs.MaskLaws.{coefficient-masks, polynomial-masks}
 use Rattle.samplers.specs.Samplers.{sampler, polynomialSampler}
-use Rattle.gadgets.specs.Convert.{toModQGadget}
+use Rattle.conversions.specs.Convert.{toModQGadget}
 use Rattle.demands.specs.Claim.{plan}
 use Rattle.demands.specs.Convert.{toModQClaim}
 use Rattle.demands.specs.Demands.{SamplerDemands}

@@ -33,7 +33,7 @@ use Rattle.verdict.specs.LastScalar.{lastScalarMarks}
 use Rattle.verdict.proofs.PlainLaws.{accepted-not-zero}
 use Rattle.verdict.proofs.ValueLaws.{Opens, verdict-feed, rejected-opens, accepted-opens}
 use Rattle.verdict.proofs.ScalarLaws.{earlier, plan-last, is-last, one-last-scalar}
-use Rattle.coefficients.specs.Coefficients.{verdictGadget}
+use Rattle.judges.specs.Verdict.{verdictGadget}
 use Rattle.demands.specs.Call.{Valid}
 use Rattle.demands.specs.Verdict.{meant, Within, verdictClaim}
 use Rattle.demands.specs.Scalars.{OneScalar, BothZero, VerdictSettings}

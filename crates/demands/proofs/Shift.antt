@@ -16,8 +16,8 @@ use Rattle.shift.proofs.FloorLaws.{shift-floor, shift-draws}
 use Rattle.shift.proofs.BooleanLaws.{to-boolean-keeps}
 use Rattle.gate.specs.Told.{standsFor, silent}
 use Rattle.gate.specs.Gadget.{silentSteps, tells}
-use Rattle.gadgets.specs.Shift.{shiftGadget, toBooleanGadget}
-use Rattle.gadgets.proofs.RangeLaws.{shift-range-in, shift-range-out, whole-power}
+use Rattle.shifts.specs.Shift.{shiftGadget, toBooleanGadget}
+use Rattle.shifts.proofs.RangeLaws.{shift-range-in, shift-range-out, whole-power}
 use Rattle.demands.specs.Claim.{plan}
 use Rattle.demands.specs.Demands.{Demands}
 use Rattle.demands.specs.Unique.{Unique}

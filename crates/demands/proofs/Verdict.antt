@@ -17,9 +17,9 @@ use Rattle.widening.specs.Widening.{widenPlan}
 use Rattle.product.specs.Product.{productPlan}
 use Rattle.verdict.specs.Verdict.{sidesPlan, frontPlan, scalesPlan, verdictPlan}
 use Rattle.verdict.proofs.ZeroLaws.{scales-length}
-use Rattle.coefficients.specs.declared.Judged.{Judged}
-use Rattle.coefficients.specs.Coefficients.{verdictGadget}
-use Rattle.coefficients.specs.Answers.{judgedStandsFor}
+use Rattle.judges.specs.declared.Judged.{Judged}
+use Rattle.judges.specs.Verdict.{verdictGadget}
+use Rattle.judges.specs.Answers.{judgedStandsFor}
 use Rattle.demands.specs.Demands.{VerdictDemands}
 use Rattle.demands.specs.Unique.{UniqueAnswer}
 use Rattle.demands.proofs.VerdictSteps.{on-judged, no-room}

@@ -25,7 +25,8 @@ use Rattle.gate.proofs.GadgetLaws.{judge-checks}
 use Rattle.verdict.specs.Verdict.{verdictOf, verdict, verdictPlan}
 use Rattle.verdict.specs.Plain.{openedOf}
 use Rattle.verdict.proofs.ValueLaws as Value
-use Rattle.coefficients.specs.Coefficients.{kindRange, verdictGadget}
+use Rattle.widens.specs.Widen.{kindRange}
+use Rattle.judges.specs.Verdict.{verdictGadget}
 use Rattle.demands.specs.Call.{Valid}
 use Rattle.demands.specs.Verdict.{meant, Within, Judgement, verdictClaim}
 use Rattle.demands.proofs.Answers.{Answers, kind-tested, laws-of, not-so, first-count, first-parameter, first-later}

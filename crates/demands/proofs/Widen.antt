@@ -16,7 +16,7 @@ use Rattle.gate.specs.Gadget.{silentSteps, tells}
 use Rattle.widening.specs.Widening.{widenPlan}
 use Rattle.widening.proofs.StepLaws.{wide-two}
 use Rattle.widening.proofs.ValueLaws.{widen-gives}
-use Rattle.coefficients.specs.Coefficients.{widenGadget}
+use Rattle.widens.specs.Widen.{widenGadget}
 use Rattle.demands.specs.Claim.{plan}
 use Rattle.demands.specs.Demands.{Demands}
 use Rattle.demands.specs.Unique.{Unique}

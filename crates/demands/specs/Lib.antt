@@ -14,6 +14,3 @@ pub mod Widen
 pub mod Decompose
 pub mod Verdict
 pub mod Scalars
-pub mod Cases
-pub mod Worked
-pub mod WorkedVerdict

@@ -13,7 +13,7 @@ use Rattle.gate.specs.Judge.{judges}
 use Rattle.verdict.specs.Verdict.{verdictPlan}
 use Rattle.verdict.specs.Plain.{accepted}
 use Rattle.verdict.specs.LastScalar.{lastScalarMarks}
-use Rattle.coefficients.specs.Coefficients.{verdictGadget}
+use Rattle.judges.specs.Verdict.{verdictGadget}
 use Rattle.demands.specs.Call.{Valid}
 use Rattle.demands.specs.Verdict.{meant, Within, verdictClaim}
 

@@ -7,7 +7,7 @@ use Rattle.numbers.specs.Modulo.{q}
 use Rattle.numbers.specs.Centred.{centred}
 use Rattle.params.specs.Sets.{Known, kindOf}
 use Rattle.widening.specs.Widening.{widenPlan}
-use Rattle.coefficients.specs.Coefficients.{widenGadget}
+use Rattle.widens.specs.Widen.{widenGadget}
 use Rattle.demands.specs.Claim.{Claim}
 
 abbrev pub widenClaim : (set kind : ℕ) → Claim

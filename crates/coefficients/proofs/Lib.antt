@@ -1,2 +1,0 @@
-pub mod TellLaws
-pub mod JudgeLaws

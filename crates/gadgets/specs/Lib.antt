@@ -1,3 +1,0 @@
-pub mod Refresh
-pub mod Shift
-pub mod Convert

@@ -1,0 +1,33 @@
+-- The cases by hand, computed on the definitions.
+use mathlib.Core.Path.{refl}
+use lib.Count.{leadingZeros}
+use Rattle.numbers.specs.Modulo.{addMod, subMod, negMod, xor}
+use Rattle.numbers.specs.Lists.{change, along, over}
+use Rattle.numbers.specs.Bits.{bitsOf, alpha, powerFrom}
+use Rattle.numbers.specs.Centred.{centred}
+use Rattle.params.specs.Sets.{setOf, known, paramsOf}
+use Rattle.tape.specs.Tape.{lowBits, drawFrom, drawAt}
+use Rattle.draws.specs.Draws.{after, next, run, bind, turns, each}
+use Rattle.draws.specs.Plan.{drawAll}
+use Rattle.shares.specs.Sharing.{addToFirst, takeFromFirst, move, negated}
+use Rattle.shares.specs.Refresh.{turn, refresh}
+use Rattle.halving.specs.Halving.{join, joinTurn, sharedParity, less, moveParity, evened, halves, halving}
+use Rattle.shift.specs.Shift.{shift}
+use Rattle.shift.specs.ToBoolean.{withBit, bitsFrom, toBoolean}
+use Rattle.convert.specs.ToArithmetic.{psi, psis, zOf, added, rule, toArithmetic}
+use Rattle.switching.specs.Switching.{floors, raised, raisedShift, carries, without}
+use Rattle.switching.specs.ToModulus.{toModulus}
+use Rattle.gate.specs.Checks.{inside, allBelow, firstFailing, checksOf, checks}
+use Rattle.gate.specs.Told.{refusal, ranTold, checkNumber, told}
+use Rattle.gate.specs.Gadget.{silentSteps, closed, tells}
+use Rattle.gate.specs.Sampler.{samples}
+use Rattle.sample.specs.Sampling.{lowered, coefficient}
+use Rattle.samplers.specs.Samplers.{sampler}
+use Rattle.decompose.specs.Plain.{remainder, multiple, last, highOf, lowOf}
+use Rattle.shifts.specs.Shift.{shiftRange, shiftGadget, toBooleanGadget}
+use Rattle.conversions.specs.Convert.{toArithmeticGadget}
+use Rattle.hand.specs.Cases.{Cases}
+
+pub cases : Cases
+unfolding leadingZeros addMod subMod negMod xor bitsOf change along over lowBits drawFrom drawAt after next run bind turns each move turn refresh negated join joinTurn sharedParity less moveParity evened halves halving shift withBit bitsFrom toBoolean psi psis zOf added rule toArithmetic inside allBelow firstFailing checksOf checks refusal ranTold silentSteps closed checkNumber told tells shiftRange shiftGadget toBooleanGadget toArithmeticGadget samples setOf known paramsOf drawAll floors raised raisedShift carries without toModulus lowered coefficient alpha powerFrom sampler addToFirst takeFromFirst centred remainder multiple last highOf lowOf
+cases = record { draw-skips = refl; draw-cuts = refl; psi-of = refl; shift-draws = refl; shift-skips = refl; shift-ends = refl; to-arithmetic = refl; to-boolean = refl; sampling = refl; decompose-half = refl; decompose-past-half = refl; decompose-last = refl; decompose-wraps = refl; decompose-before = refl }

@@ -1,0 +1,99 @@
+// One case of the self test: a call of a public gadget, and whether it told what is wanted.
+use gadgets::decompose;
+use gadgets::refresh;
+use gadgets::sample;
+use gadgets::shift;
+use gadgets::to_arithmetic;
+use gadgets::to_boolean;
+use gadgets::verdict;
+use words::reduce_q;
+ghost use mathlib.Core.Path.{_≡_};
+ghost use mathlib.Core.List.{[], _∷_};
+ghost use Rattle.numbers.specs.Modulo.{q, addMod};
+ghost use Rattle.gate.specs.Gadget.{tells};
+ghost use Rattle.gate.specs.Judge.{judges};
+ghost use Rattle.gate.specs.Sampler.{samples};
+ghost use Rattle.refreshes.specs.Refresh.{refreshGadget};
+ghost use Rattle.shifts.specs.Shift.{shiftGadget, toBooleanGadget};
+ghost use Rattle.conversions.specs.Convert.{toArithmeticGadget};
+ghost use Rattle.samplers.specs.Samplers.{sampler};
+ghost use Rattle.decomposes.specs.Decompose.{decomposeGadget};
+ghost use Rattle.judges.specs.Verdict.{verdictGadget};
+ghost use Rattle.selftest.specs.Held.{sevens, held, sharesShown, partsShown, verdictShown};
+
+fn held(wanted: [u32; 4], number: u32, used: usize, third: u32, fourth: u32) -> bool
+    ensures { λ r. ⌜ r ≡ held wanted (number ∷ used ∷ third ∷ fourth ∷ []) ⌝ }
+{
+    if number != wanted[0] {
+        return false;
+    }
+    if used != wanted[1] as usize {
+        return false;
+    }
+    if third != wanted[2] {
+        return false;
+    }
+    fourth == wanted[3]
+}
+
+pub fn refresh_gives(shares: &[u32], tape: &[u32], modulus: u32, wanted: [u32; 4]) -> bool
+    ensures { λ r. ⌜ r ≡ held wanted (sharesShown (tells (refreshGadget modulus) (now (shares .entry)) (now (tape .entry)) sevens)) ⌝ }
+{
+    let mut out = [7u32; 2];
+    let told = refresh(shares, tape, modulus, &mut out);
+    held(wanted, told.number, told.used, out[0], out[1])
+}
+
+pub fn shift_gives(shares: &[u32], tape: &[u32], modulus: u32, t: u32, wanted: [u32; 4]) -> bool
+    ensures { λ r. ⌜ r ≡ held wanted (sharesShown (tells (shiftGadget modulus t) (now (shares .entry)) (now (tape .entry)) sevens)) ⌝ }
+{
+    let mut out = [7u32; 2];
+    let told = shift(shares, tape, modulus, t, &mut out);
+    held(wanted, told.number, told.used, out[0], out[1])
+}
+
+pub fn to_arithmetic_gives(shares: &[u32], tape: &[u32], k: u32, wanted: [u32; 4]) -> bool
+    ensures { λ r. ⌜ r ≡ held wanted (sharesShown (tells (toArithmeticGadget k) (now (shares .entry)) (now (tape .entry)) sevens)) ⌝ }
+{
+    let mut out = [7u32; 2];
+    let told = to_arithmetic(shares, tape, k, &mut out);
+    held(wanted, told.number, told.used, out[0], out[1])
+}
+
+pub fn to_boolean_gives(shares: &[u32], tape: &[u32], k: u32, wanted: [u32; 4]) -> bool
+    ensures { λ r. ⌜ r ≡ held wanted (sharesShown (tells (toBooleanGadget k) (now (shares .entry)) (now (tape .entry)) sevens)) ⌝ }
+{
+    let mut out = [7u32; 2];
+    let told = to_boolean(shares, tape, k, &mut out);
+    held(wanted, told.number, told.used, out[0], out[1])
+}
+
+pub fn sample_gives(tape: &[u32], set: u32, wanted: [u32; 4]) -> bool
+    ensures { λ r. ⌜ r ≡ held wanted (sharesShown (samples (sampler set) 2 (now (tape .entry)) sevens)) ⌝ }
+{
+    let mut out = [7u32; 2];
+    let told = sample(tape, 2, set, &mut out);
+    held(wanted, told.number, told.used, out[0], out[1])
+}
+
+fn sum_q(x: u32, y: u32) -> u32
+    ensures { λ r. ⌜ r ≡ addMod q x y ⌝ }
+{
+    reduce_q(x as u64 + y as u64)
+}
+
+pub fn decompose_gives(shares: &[u32], tape: &[u32], set: u32, wanted: [u32; 4]) -> bool
+    ensures { λ r. ⌜ r ≡ held wanted (partsShown (tells (decomposeGadget set) (now (shares .entry)) (now (tape .entry)) sevens)) ⌝ }
+{
+    let mut out = [7u32; 2];
+    let told = decompose(shares, tape, set, &mut out);
+    let low = sum_q(out[0], out[1]);
+    held(wanted, told.number, told.used, told.high, low)
+}
+
+pub fn verdict_gives(shares: &[u32], tape: &[u32], set: u32, kind: u32, wanted: [u32; 4]) -> bool
+    ensures { λ r. ⌜ r ≡ held wanted (verdictShown (judges (verdictGadget set kind) (now (shares .entry)) (now (tape .entry)))) ⌝ }
+{
+    let told = verdict(shares, tape, set, kind);
+    held(wanted, told.number, told.used, told.verdict, told.opened)
+}
