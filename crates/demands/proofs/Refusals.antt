@@ -4,13 +4,13 @@ use mathlib.Core.List.{List}
 use Prim.Native.Nat.{ℕ}
 use native.Mathlib.Omega.{arith}
 use Rattle.tape.specs.Tape.{start}
-use Rattle.draws.proofs.PlanLaws.{planned-ran, planned-ended}
+use Rattle.draws.proofs.PlanLaws.{planned-ended}
 use Rattle.gate.specs.Told.{Told, refusal, checkNumber, told}
 use Rattle.gate.proofs.GadgetLaws.{by-check}
 use Rattle.demands.specs.Call.{CallClaim}
 use Rattle.demands.specs.Refusals.{Refused, Refusals}
 use Rattle.demands.proofs.Answers.{Answers}
-use Rattle.demands.proofs.Runs.{tells-success, tells-short, Ending, succeeds, stops, refuses, ending}
+use Rattle.demands.proofs.Runs.{tells-short, Ending, succeeds, stops, refuses, ending}
 
 module _ {c : CallClaim} (s : Answers c) (tape : List ℕ) where
   -- a check that fails answers, with the slice unchanged
@@ -30,7 +30,6 @@ module _ {c : CallClaim} (s : Answers c) (tape : List ℕ) where
         bad-parameter = λ h r n. answers 3 (s .bad-parameter h r n) (λ z. omega arith);
         bad-share = λ h r i n. answers 4 (s .bad-share h r i n) (λ z. omega arith);
         short-tape = λ v e. stopped (tells-short (c .call) tape (s .passes v) (planned-ended (s .planned v) tape start e));
-        no-other = λ v rs p e. ap (λ (t : Told). t .number) (tells-success (c .call) tape (s .passes v) (planned-ran (s .planned v) tape start e));
         or-short = λ e. short e (ending (c .call) tape);
         or-succeeds = λ n m. kept n m (ending (c .call) tape);
       }

@@ -3,8 +3,7 @@
 use mathlib.Core.Path.{_≡_}
 use mathlib.Core.List.{List}
 use Prim.Native.Nat.{ℕ}
-use Rattle.tape.specs.declared.Cursor.{Cursor}
-use Rattle.tape.specs.Tape.{ended, ran, start}
+use Rattle.tape.specs.Tape.{ended, start}
 use Rattle.draws.specs.Draws.{run}
 use Rattle.draws.specs.Plan.{drawAll}
 use Rattle.gate.specs.Told.{refusal, told}
@@ -21,8 +20,6 @@ pub record Refusals (c : CallClaim) (tape : List ℕ) : Type 0 where
   pub bad-share : c .Count → c .Room → c .InRange → ¬ (c .Below) → Refused c tape 4 (c .out)
   -- the tape ends before the last draw
   pub short-tape : Valid c → run (drawAll (c .plan)) tape start ≡ ended → Refused c tape 5 (c .short)
-  -- nothing else is refused
-  pub no-other : Valid c → (rs : List ℕ) (p : Cursor) → run (drawAll (c .plan)) tape start ≡ ran rs p → told (c .call) tape .number ≡ 0
-  -- and every call that does not succeed is refused so: by number 5, or with the output slice unchanged
+  -- every call that does not succeed is refused so: by number 5, or with the output slice unchanged
   pub or-short : told (c .call) tape .number ≡ 5 → Refused c tape 5 (c .short)
   pub or-succeeds : ¬ (told (c .call) tape .number ≡ 0) → ¬ (told (c .call) tape .number ≡ 5) → Refused c tape (told (c .call) tape .number) (c .out)

@@ -4,8 +4,9 @@ use mathlib.Core.List.{List}
 use Prim.Native.Nat.{ℕ, _+_}
 use lib.ListN.{length}
 use Rattle.tape.specs.declared.Cursor.{Cursor}
-use Rattle.tape.specs.Tape.{start}
-use Rattle.draws.specs.Plan.{skipped}
+use Rattle.tape.specs.Tape.{ran, start}
+use Rattle.draws.specs.Draws.{run}
+use Rattle.draws.specs.Plan.{drawAll, skipped}
 use Rattle.draws.specs.Anew.{Same}
 use Rattle.gate.specs.Told.{Told, told}
 use Rattle.demands.specs.Call.{CallClaim, Valid}
@@ -24,5 +25,8 @@ pub record Correct (c : CallClaim) (tape : List ℕ) (t : Told) : Type 0 where
   -- and these words alone were read: a tape that begins with them gives the same
   pub read : (other : List ℕ) → Same tape other 0 (t .used) → told (c .call) other ≡ t
 
-abbrev pub Values : CallClaim → (tape : List ℕ) → Type 0
-Values c tape = told (c .call) tape .number ≡ 0 → Correct c tape (told (c .call) tape)
+pub record Values (c : CallClaim) (tape : List ℕ) : Type 0 where
+  -- a call that no check refuses succeeds on every tape that has its draws
+  pub succeeds : Valid c → (rs : List ℕ) (p : Cursor) → run (drawAll (c .plan)) tape start ≡ ran rs p → told (c .call) tape .number ≡ 0
+  -- and what a call tells that succeeds is correct
+  pub correct : told (c .call) tape .number ≡ 0 → Correct c tape (told (c .call) tape)
