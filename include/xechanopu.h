@@ -200,7 +200,14 @@ xe_judged xe_verdict(const uint32_t *shares, size_t n, const uint32_t *tape, siz
 /*
  * Runs cases worked by hand; call it at power-on, before any other function. Answers 0, or the number of the
  * first case that came out wrong. On a machine that keeps the language's rules it is proved to answer 0, so
- * anything else is a fault of the hardware or of the build: use no gadget then.
+ * anything else is a fault of the hardware or of the build: use no gadget then. It takes some 6 kB of stack.
+ *
+ *    1, 2   two draws below q                    12 .. 16  Decompose, set 44
+ *    3      Psi, in a conversion                 17 .. 21  verdicts, set 44, kind 1
+ *    4 .. 6 shifts, one on a short tape          22        the draws of a verdict in eight shares
+ *    7      Boolean to arithmetic                23 .. 25  refusals: one share, nine, a share of q
+ *    8      arithmetic to Boolean                26 .. 30  the bounds of 44 kind 2, 65 kinds 1 and 2,
+ *    9 .. 11 the offset of each set                        87 kinds 1 and 2
  */
 uint32_t xe_self_test(void);
 

@@ -14,7 +14,7 @@ use Rattle.numbers.specs.Centred.{centred}
 use Rattle.numbers.proofs.Cong.{cong-eq}
 use Rattle.numbers.proofs.GroupLaws.{sub-only}
 use Rattle.numbers.proofs.CentredLaws.{less-over, less-under, less-one, centred-sub, centred-top}
-use Rattle.decompose.specs.Plain.{remainder, multiple, last, highOf, lowOf}
+use Rattle.decompose.specs.Plain.{remainder, multiple, exception, highOf, lowOf}
 use Rattle.decompose.specs.Remainder.{Remainder}
 
 -- r is 2γ2·k and a number from −γ2 + 1 to γ2, which is the remainder; and r less that is the multiple
@@ -124,11 +124,11 @@ module _ (g δ r : ℕ) (least : 0 < g) (some : 0 < δ) (parts : 2 * g * δ ≡ 
 
   -- below δ, k is the high part
   usual : (k : ℕ) → Near g r k → k < δ → Agrees
-  unfolding highOf lowOf last
+  unfolding highOf lowOf exception
   usual k a h =
       let up : k + 1 ≤ δ = omega arith in
       let room : 2 * g * k + 2 * g ≤ q - 1 = omega (arith, mul-le-mul-left (2 * g) up) in
-      let other : last g r ≡ false = ne-eqb (multiple g r) (q - 1) (λ e. omega (arith, a .whole)) in
+      let other : exception g r ≡ false = ne-eqb (multiple g r) (q - 1) (λ e. omega (arith, a .whole)) in
       let high : highOf g r ≡ k = rw (other, a .whole) (mul-div-cancel-left k (omega arith)) in
       let low : lowOf g r ≡ pos r -ℤ pos (2 * g * k) = rw other (a .rest) in
       let sum : r + g ≡ 2 * g * k + (r + g - 2 * g * k) = omega (arith, a .over) in
@@ -141,9 +141,9 @@ module _ (g δ r : ℕ) (least : 0 < g) (some : 0 < δ) (parts : 2 * g * δ ≡ 
 
   -- at δ, it is 0, and r0 is less by 1
   top : Near g r δ → Agrees
-  unfolding highOf lowOf last
+  unfolding highOf lowOf exception
   top a =
-      let end : last g r ≡ true = eq-eqb (multiple g r) (q - 1) (a .whole ∙ parts) in
+      let end : exception g r ≡ true = eq-eqb (multiple g r) (q - 1) (a .whole ∙ parts) in
       let high : highOf g r ≡ 0 = rw end in
       let low : lowOf g r ≡ (pos r -ℤ pos (q - 1)) -ℤ pos 1 = rw end (ap (λ (z : ℤ). z -ℤ pos 1) (a .rest ∙ ap (λ (x : ℕ). pos r -ℤ pos x) parts)) in
       let past : (r + g) % q ≡ r + g - q = mod-eq-sub-mod {n = r + g} {m = q} (omega (arith, a .over)) ∙ mod-eq-of-lt (omega (arith, half-most)) in

@@ -16,13 +16,13 @@ remainder γ2 r = centred (2 * γ2) (r % (2 * γ2))
 unfoldable pub multiple : (γ2 r : ℕ) → ℕ
 multiple γ2 r = natAbs (pos r -ℤ remainder γ2 r)
 
--- r − r0 = q − 1
-unfoldable pub last : (γ2 r : ℕ) → Bool
-last γ2 r = eqb (multiple γ2 r) (q - 1)
+-- the exception: r − r0 = q − 1
+unfoldable pub exception : (γ2 r : ℕ) → Bool
+exception γ2 r = eqb (multiple γ2 r) (q - 1)
 
 -- r1, and r0
 unfoldable pub highOf : (γ2 r : ℕ) → ℕ
-highOf γ2 r = pick (last γ2 r) 0 (multiple γ2 r / (2 * γ2))
+highOf γ2 r = pick (exception γ2 r) 0 (multiple γ2 r / (2 * γ2))
 
 unfoldable pub lowOf : (γ2 r : ℕ) → ℤ
-lowOf γ2 r = pick (last γ2 r) (remainder γ2 r -ℤ pos 1) (remainder γ2 r)
+lowOf γ2 r = pick (exception γ2 r) (remainder γ2 r -ℤ pos 1) (remainder γ2 r)

@@ -23,11 +23,11 @@ use Rattle.gate.specs.Gadget.{silentSteps, closed, tells}
 use Rattle.gate.specs.Sampler.{samples}
 use Rattle.sample.specs.Sampling.{lowered, coefficient}
 use Rattle.samplers.specs.Samplers.{sampler}
-use Rattle.decompose.specs.Plain.{remainder, multiple, last, highOf, lowOf}
+use Rattle.decompose.specs.Plain.{remainder, multiple, exception, highOf, lowOf}
 use Rattle.shifts.specs.Shift.{shiftRange, shiftGadget, toBooleanGadget}
 use Rattle.conversions.specs.Convert.{toArithmeticGadget}
 use Rattle.hand.specs.Cases.{Cases}
 
 pub cases : Cases
-unfolding leadingZeros addMod subMod negMod xor bitsOf change along over lowBits drawFrom drawAt after next run bind turns each move turn refresh negated join joinTurn sharedParity less moveParity evened halves halving shift withBit bitsFrom toBoolean psi psis zOf added rule toArithmetic inside allBelow firstFailing checksOf checks refusal ranTold silentSteps closed checkNumber told tells shiftRange shiftGadget toBooleanGadget toArithmeticGadget samples setOf known paramsOf drawAll floors raised raisedShift carries without toModulus lowered coefficient alpha powerFrom sampler addToFirst takeFromFirst centred remainder multiple last highOf lowOf
+unfolding leadingZeros addMod subMod negMod xor bitsOf change along over lowBits drawFrom drawAt after next run bind turns each move turn refresh negated join joinTurn sharedParity less moveParity evened halves halving shift withBit bitsFrom toBoolean psi psis zOf added rule toArithmetic inside allBelow firstFailing checksOf checks refusal ranTold silentSteps closed checkNumber told tells shiftRange shiftGadget toBooleanGadget toArithmeticGadget samples setOf known paramsOf drawAll floors raised raisedShift carries without toModulus lowered coefficient alpha powerFrom sampler addToFirst takeFromFirst centred remainder multiple exception highOf lowOf
 cases = record { draw-skips = refl; draw-cuts = refl; psi-of = refl; shift-draws = refl; shift-skips = refl; shift-ends = refl; to-arithmetic = refl; to-boolean = refl; sampling = refl; decompose-half = refl; decompose-past-half = refl; decompose-last = refl; decompose-wraps = refl; decompose-before = refl }
