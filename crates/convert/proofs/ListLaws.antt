@@ -3,13 +3,14 @@ use mathlib.Core.Path.{_≡_, refl, sym, ap, ap₂, subst, _∙_}
 use mathlib.Core.Bool.{Bool, true, false}
 use mathlib.Core.List.{List, [], _∷_, _++_, append-assoc}
 use Prim.Native.Nat.{ℕ, suc, _+_, _-_, _%_, _^_, _≤_, _<_}
-use native.Mathlib.Nat.{mod-lt, le-antisymm}
+use native.Mathlib.Nat.{mod-lt}
 use native.Mathlib.Numerals.{add-one}
 use native.Mathlib.Omega.{arith}
+use native.Mathlib.Decide.{decLt, ℕ-discrete}
 use lib.ListN.{length, getD, set, take}
 use lib.Dec.{eqb}
 use lib.Pow.{pow-pos}
-use lib.Seq.{take-suc, take-suc-set, take-take, getD-take, length-take-le}
+use lib.Seq.{take-suc, getD-take, length-take-le, getD-set-same, getD-set-other}
 use borrow.Author.Tests.{eq-eqb, ne-eqb}
 use Rattle.numbers.specs.Tests.{pick}
 use Rattle.numbers.specs.Modulo.{addMod, subMod, xor}
@@ -18,7 +19,7 @@ use Rattle.numbers.proofs.Cong.{cong-eq, cong-mod, cong-sym, _⨾_}
 use Rattle.numbers.proofs.GroupLaws.{sub-only}
 use Rattle.numbers.proofs.XorLaws.{xor-below}
 use Rattle.numbers.proofs.WordsLaws.{words-at, words-set, words-change, take-change}
-use Rattle.numbers.proofs.AlongLaws.{Along, along-start, along-read, along-more, along-front, along-below, take-along, words-along}
+use Rattle.numbers.proofs.AlongLaws.{along-is, take-along, words-along}
 use Rattle.convert.specs.ToArithmetic.{psi, psis, zOf, added}
 
 -- ---- Ψ: what the wrapping subtraction gives is the difference modulo 2^32
@@ -66,60 +67,60 @@ z-take n k s x us h = go (eqb (s % 2) 1)
     go true = take-change (λ z. xor z x) n 0 (psis k x us) h ∙ ap (change (λ z. xor z x) 0) same
     go false = same
 
--- ---- the results added: in the loop over all places but the last, those before i are added
+-- ---- the results added
 abbrev adds : ℕ → List ℕ → ℕ → ℕ → ℕ
 adds M zs j u = addMod M u (getD zs j 0)
 
-pub record Adding (M n : ℕ) (us zs : List ℕ) (i : ℕ) (ws : List ℕ) : Type 0 where
-  pub least : 1 ≤ n
-  pub room : n ≤ 7
-  pub positive : 0 < M
-  pub mine : Words 8 M us
-  pub other : Words 8 M zs
-  pub most : i ≤ n - 1
-  pub so-far : Along 8 (adds M (take n zs)) us i ws
+-- what the word v at place i is
+abbrev pub Added : (M last : ℕ) (us zs : List ℕ) (i v : ℕ) → Type 0
+Added M last us zs i v = (i < last → v ≡ addMod M (getD us i 0) (getD zs i 0)) × (i ≡ last → v ≡ getD us i 0) × (last < i → v ≡ getD zs (i - 1) 0)
 
-module _ {M n : ℕ} {us zs : List ℕ} where
-  pub adding-start : 1 ≤ n → n ≤ 7 → 0 < M → Words 8 M us → Words 8 M zs → Adding M n us zs 0 us
-  adding-start l r h m o = record { least = l; room = r; positive = h; mine = m; other = o; most = omega arith; so-far = along-start (m .size) }
+-- at turn i, the words before i are so
+pub record Adding (M last : ℕ) (us zs : List ℕ) (i : ℕ) (ws : List ℕ) : Type 0 where
+  pub all : Words 8 M ws
+  pub before : (j : ℕ) → j < i → Added M last us zs j (getD ws j 0)
 
-  module _ {i : ℕ} {ws : List ℕ} (a : Adding M n us zs i ws) where
-    pub adding-word : getD ws i 0 < M
-    adding-word = subst (λ (x : ℕ). x < M) (sym (along-read (a .so-far))) (words-at (a .positive) (a .mine) i)
+module _ {M last : ℕ} {us zs : List ℕ} where
+  pub adding-start : {ws : List ℕ} → Words 8 M ws → Adding M last us zs 0 ws
+  adding-start w = record { all = w; before = λ j h. absurd (omega arith) }
 
-    pub adding-other : (j : ℕ) → getD zs j 0 < M
-    adding-other j = words-at (a .positive) (a .other) j
+  pub adding-more : {i v : ℕ} {ws : List ℕ} → Adding M last us zs i ws → i < 8 → 0 < M → Words 8 M us → Words 8 M zs → Added M last us zs i v → Adding M last us zs (i + 1) (set ws i v)
+  unfolding addMod
+  adding-more {i} {v} {ws} a room h u z e = record { all = words-set (a .all) i (small (decLt i last) (ℕ-discrete i last)); before = λ j l. go j l (ℕ-discrete j i) }
+    where
+      small : Dec (i < last) → Dec (i ≡ last) → v < M
+      small (yes l) t = rw (e .0 l) (mod-lt _ h)
+      small (no l) (yes t) = rw (e .1 t) (words-at h u i)
+      small (no l) (no t) = rw (e .2 (omega (arith, l, t))) (words-at h z (i - 1))
 
-    pub adding-more : i < n - 1 → {m v : ℕ} → m ≡ M → v ≡ addMod m (getD ws i 0) (getD zs i 0) → Adding M n us zs (i + 1) (set ws i v)
-    adding-more h f e =
-        record {
-          least = a .least;
-          room = a .room;
-          positive = a .positive;
-          mine = a .mine;
-          other = a .other;
-          most = omega arith;
-          so-far = along-more (a .so-far) (omega (arith, a .room)) (e ∙ ap₂ (λ m y. addMod m (getD ws i 0) y) f (sym (getD-take n zs i 0 (omega arith))));
-        }
+      go : (j : ℕ) → j < i + 1 → Dec (j ≡ i) → Added M last us zs j (getD (set ws i v) j 0)
+      go j l (yes f) = let g : getD (set ws i v) i 0 ≡ v = getD-set-same ws i v 0 (omega (arith, a .all .size)) in rw (f, g) e
+      go j l (no f) = rw (getD-set-other ws i j v 0 f) (a .before j (omega (arith, f)))
 
-    -- and then the last share of Z is stored behind
-    pub adding-words : Words 8 M (set ws n (getD zs (n - 1) 0))
-    unfolding addMod
-    adding-words = words-set (along-below (a .so-far) (a .mine) (λ j x h. mod-lt _ (a .positive))) n (adding-other (n - 1))
+  pub adding-all : {i n : ℕ} {ws : List ℕ} → Adding M last us zs i ws → 8 ≤ i → n ≡ last + 1 → n ≤ 7 → length us ≡ 8 → take (n + 1) ws ≡ added M (take n us) (take n zs)
+  unfolding added
+  adding-all {i} {n} {ws} a end one room size =
+      ap (λ (k : ℕ). take k ws) (add-one n) ∙ take-suc ws n 0 (omega (arith, a .all .size))
+      ∙ ap (λ (l : List ℕ). l ++ (getD ws n 0 ∷ [])) (ap (λ (k : ℕ). take k ws) (one ∙ add-one last) ∙ take-suc ws last 0 (omega (arith, a .all .size)))
+      ∙ append-assoc (take last ws) (getD ws last 0 ∷ []) (getD ws n 0 ∷ [])
+      ∙ rw (length-take-le n us (omega arith), fewer, sums, u, z)
+    where
+      fewer : n - 1 ≡ last
+      fewer = omega arith
 
-    pub adding-all : n - 1 ≤ i → take (n + 1) (set ws n (getD zs (n - 1) 0)) ≡ added M (take n us) (take n zs)
-    unfolding added
-    adding-all end =
-        let last : ℕ = n - 1 in
-        let v : ℕ = getD zs last 0 in
-        let b : Along 8 (adds M (take n zs)) us last ws = subst (λ (j : ℕ). Along 8 (adds M (take n zs)) us j ws) (le-antisymm (a .most) end) (a .so-far) in
-        let one : n ≡ suc last = omega (arith, a .least) in
-        let before : last < n = omega arith in
-        let room : n < length ws = omega (arith, b .kept, a .room) in
-        let sums : take last ws ≡ along (adds M (take n zs)) (take last (take n us)) = along-front b ∙ ap (along _) (sym (take-take last n us (omega arith))) in
-        let u : getD ws last 0 ≡ getD (take n us) last 0 = b .since last (omega arith) ∙ sym (getD-take n us last 0 before) in
-        let z : v ≡ getD (take n zs) last 0 = sym (getD-take n zs last 0 before) in
-        ap (λ (k : ℕ). take k (set ws n v)) (add-one n) ∙ take-suc-set ws n v room
-        ∙ ap (λ (l : List ℕ). l ++ (v ∷ [])) (ap (λ (k : ℕ). take k ws) one ∙ take-suc ws last 0 (omega arith))
-        ∙ append-assoc (take last ws) (getD ws last 0 ∷ []) (v ∷ [])
-        ∙ rw (length-take-le n us (omega (arith, b .whole, a .room)), sums, u, z)
+      front : length (take last (take n us)) ≡ last
+      front = length-take-le last (take n us) (omega (arith, length-take-le n us (omega arith)))
+
+      at : (j : ℕ) → j < last → getD (take last ws) j 0 ≡ adds M (take n zs) j (getD (take last (take n us)) j 0)
+      at j l =
+          getD-take last ws j 0 l ∙ a .before j (omega arith) .0 l
+          ∙ sym (ap₂ (addMod M) (getD-take last (take n us) j 0 l ∙ getD-take n us j 0 (omega arith)) (getD-take n zs j 0 (omega arith)))
+
+      sums : take last ws ≡ along (adds M (take n zs)) (take last (take n us))
+      sums = along-is _ (take last (take n us)) (take last ws) (length-take-le last ws (omega (arith, a .all .size)) ∙ sym front) (λ j l. at j (omega (arith, front)))
+
+      u : getD ws last 0 ≡ getD (take n us) last 0
+      u = a .before last (omega arith) .1 refl ∙ sym (getD-take n us last 0 (omega arith))
+
+      z : getD ws n 0 ≡ getD (take n zs) last 0
+      z = a .before n (omega arith) .2 (omega arith) ∙ ap (λ (k : ℕ). getD zs k 0) fewer ∙ sym (getD-take n zs last 0 (omega arith))

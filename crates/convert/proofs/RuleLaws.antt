@@ -7,30 +7,101 @@ use native.Mathlib.Numerals.{add-one}
 use native.Mathlib.Omega.{arith}
 use lib.ListN.{length, getD, set, take, drop, replicate, length-drop}
 use lib.Pow.{pow-pos}
-use lib.Seq.{getD-take, length-take-le, take-suc-set}
+use lib.Seq.{getD-take, length-take-le, take-suc-set, getD-set-other}
 use Rattle.numbers.specs.Modulo.{xor}
-use Rattle.numbers.specs.Lists.{Words}
+use Rattle.numbers.specs.Lists.{Words, change, along}
 use Rattle.numbers.proofs.XorLaws.{xor-below}
 use Rattle.numbers.proofs.WordsLaws.{words-cons, words-drop, words-set, words-same, take-rest}
 use Rattle.tape.specs.declared.Cursor.{Cursor}
-use Rattle.tape.specs.Tape.{Ran, ended, ran}
+use Rattle.tape.specs.declared.Draw.{Draw}
+use Rattle.tape.specs.declared.Draw.the-variants.{Got, Ended}
+use Rattle.tape.specs.Tape.{Ran, ended, ran, drawAt}
+use Rattle.tape.specs.Answers.{drawStandsFor}
 use Rattle.draws.specs.Draws.{Draws, done, bind, run}
 use Rattle.draws.proofs.RunLaws.{run-done, bind-ran, bind-ended, part-ran, part-ended}
 use Rattle.shares.specs.Sharing.{boolean}
 use Rattle.shares.specs.Refresh.{refresh}
 use Rattle.shares.specs.Arrays.{Held, Copied, Given}
 use Rattle.shares.proofs.ArraysLaws.{held-at, copied-take, held-copied, given-as, whole}
-use Rattle.convert.specs.ToArithmetic.{zOf, added, rule, toArithmetic}
-use Rattle.convert.proofs.ListLaws.{z-take}
+use Rattle.shares.proofs.TurnLaws.{Remaining, remaining-start, remaining-none, remaining-ended, remaining-draw, remaining-more}
+use Rattle.convert.specs.ToArithmetic.{psi, psis, zOf, added, rule, toArithmetic}
+use Rattle.convert.proofs.ListLaws.{psi-below, z-take}
 
--- two shares
-pub rule-two : {s : ℕ} (k : ℕ) {ws : List ℕ} (tape : List ℕ) (p : Cursor) → Held 9 s (2 ^ k) ws → s ≡ 2 → {v : ℕ} → v ≡ xor (getD ws 0 0) (getD ws 1 0) →
-    Given 8 (s - 1) (2 ^ k) true (v ∷ replicate 7 0) p (run (rule k (s - 2) (take s ws)) tape p)
+-- three shares: the words that the refresh makes of them, and the two results
+three-words : (ws : List ℕ) (x y z : ℕ) → length ws ≡ 9 → take 3 (set (set (set ws 0 x) 1 y) 2 z) ≡ x ∷ y ∷ z ∷ []
+three-words [] x y z e = absurd (omega arith)
+three-words (a ∷ []) x y z e = absurd (omega arith)
+three-words (a ∷ b ∷ []) x y z e = absurd (omega arith)
+three-words (a ∷ b ∷ c ∷ ws) x y z e = refl
+
+three-rest : (k x y z : ℕ) (tape : List ℕ) (c : Cursor) →
+    run (bind (rule k 0 (y ∷ z ∷ [])) (λ us. bind (rule k 0 (zOf k 3 x (y ∷ z ∷ []))) (λ zs. done (added (2 ^ k) us zs)))) tape c
+    ≡ ran (xor y z ∷ xor (xor (psi k x y) x) (psi k x z) ∷ []) c
+unfolding rule zOf psis added along change bind run
+three-rest k x y z tape c = refl
+
+three-run : (k x y z : ℕ) (xs tape : List ℕ) (p c : Cursor) → run (refresh (boolean k) xs) tape p ≡ ran (x ∷ y ∷ z ∷ []) c →
+    run (rule k 1 xs) tape p ≡ ran (xor y z ∷ xor (xor (psi k x y) x) (psi k x z) ∷ []) c
 unfolding rule
-rule-two {s} k {ws} tape p a e {v} f =
-    let small : v < 2 ^ k = rw f (xor-below k _ _ (held-at a 0) (held-at a 1)) in
-    let both : v ≡ xor (getD (take 2 ws) 0 0) (getD (take 2 ws) 1 0) = f ∙ ap₂ xor (sym (getD-take 2 ws 0 0 (omega arith))) (sym (getD-take 2 ws 1 0 (omega arith))) in
-    whole refl (words-cons small (words-same (pow-pos k))) (rw e (ap (λ x. ran (x ∷ []) p) both ∙ sym (run-done _ tape p)))
+three-run k x y z xs tape p c e = bind-ran (refresh (boolean k) xs) _ tape p (x ∷ y ∷ z ∷ []) c e ∙ three-rest k x y z tape c
+
+three-cut : (k : ℕ) (xs tape : List ℕ) (p : Cursor) → ended ≡ run (refresh (boolean k) xs) tape p → ended ≡ run (rule k 1 xs) tape p
+unfolding rule
+three-cut k xs tape p e = sym (bind-ended (refresh (boolean k) xs) _ tape p (sym e))
+
+module _ (k : ℕ) {ws : List ℕ} (tape : List ℕ) (p : Cursor) (a : Held 9 3 (2 ^ k) ws) (d : Draw) (told : drawStandsFor d ≡ drawAt tape p (2 ^ k)) where
+  begun : Remaining (boolean k) 9 3 tape (run (refresh (boolean k) (take 3 ws)) tape p) 0 ws (getD ws 2 0) p
+  begun = remaining-start (boolean k) 9 3 ws tape p a
+
+  -- the tape has ended before the first draw
+  pub three-ended : d ≡ Ended → ended ≡ run (rule k 1 (take 3 ws)) tape p
+  three-ended e = three-cut k (take 3 ws) tape p (remaining-ended begun (omega arith) d told e)
+
+  module _ {r : ℕ} {q : Cursor} (e : d ≡ Got r q) (o : Draw) (more : drawStandsFor o ≡ drawAt tape q (2 ^ k)) where
+    one : Remaining (boolean k) 9 3 tape (run (refresh (boolean k) (take 3 ws)) tape p) 1 (set ws 0 (xor (getD ws 0 0) r)) (xor (getD ws 2 0) r) q
+    one = remaining-more begun (omega arith) d told e refl refl
+
+    -- or before the second
+    pub three-ended-later : o ≡ Ended → ended ≡ run (rule k 1 (take 3 ws)) tape p
+    three-ended-later f = three-cut k (take 3 ws) tape p (remaining-ended one (omega arith) o more f)
+
+    module _ {v : ℕ} {c : Cursor} (f : o ≡ Got v c) where
+      second : xor (getD ws 1 0) v ≡ xor (getD (set ws 0 (xor (getD ws 0 0) r)) 1 0) v
+      second = ap (λ y. xor y v) (sym (getD-set-other ws 0 1 (xor (getD ws 0 0) r) 0 (omega arith)))
+
+      two : Remaining (boolean k) 9 3 tape (run (refresh (boolean k) (take 3 ws)) tape p) 2
+          (set (set ws 0 (xor (getD ws 0 0) r)) 1 (xor (getD ws 1 0) v)) (xor (xor (getD ws 2 0) r) v) c
+      two = remaining-more one (omega arith) o more f second refl
+
+      -- it suffices
+      pub three-gave : {x y z : ℕ} → x ≡ xor (getD ws 0 0) r → y ≡ xor (getD ws 1 0) v → z ≡ xor (xor (getD ws 2 0) r) v → {s t u w : ℕ} → s ≡ psi k x y → t ≡ psi k x z →
+          u ≡ xor y z → w ≡ xor (xor s x) t → Given 8 2 (2 ^ k) true (u ∷ w ∷ replicate 6 0) c (run (rule k 1 (take 3 ws)) tape p)
+      three-gave {x} {y} {z} ex ey ez es et eu ew =
+          whole refl (words-cons (rw eu (xor-below k y z below-y below-z)) (words-cons (rw (ew, es, et) (xor-below k _ (psi k x z) (xor-below k (psi k x y) x (psi-below k x y) below-x) (psi-below k x z)))
+          (words-same (pow-pos k))))
+          (rw (eu, ew, es, et) (sym (three-run k x y z (take 3 ws) tape p c (sym (remaining-none two (omega arith)) ∙ ap (λ (l : List ℕ). ran l c) words))))
+        where
+          first-below : r < 2 ^ k
+          first-below = remaining-draw begun (omega arith) d told e
+
+          second-below : v < 2 ^ k
+          second-below = remaining-draw one (omega arith) o more f
+
+          below-x : x < 2 ^ k
+          below-x = rw ex (xor-below k _ r (held-at a 0) first-below)
+
+          below-y : y < 2 ^ k
+          below-y = rw ey (xor-below k _ v (held-at a 1) second-below)
+
+          below-z : z < 2 ^ k
+          below-z = rw ez (two .below)
+
+          words : take 3 (set (set (set ws 0 (xor (getD ws 0 0) r)) 1 (xor (getD ws 1 0) v)) 2 (xor (xor (getD ws 2 0) r) v)) ≡ x ∷ y ∷ z ∷ []
+          words = rw (ex, ey, ez) (three-words ws _ _ _ (a .all .size))
+
+pub rule-three : {s : ℕ} (k : ℕ) (ws tape : List ℕ) (p : Cursor) {ok : Bool} {words : List ℕ} {c : Cursor} → s ≡ 3 →
+    Given 8 2 (2 ^ k) ok words c (run (rule k 1 (take 3 ws)) tape p) → Given 8 (s - 1) (2 ^ k) ok words c (run (rule k (s - 2) (take s ws)) tape p)
+rule-three k ws tape p e g = rw e g
 
 -- U and Z are held as the shares were
 pub held-shorter : {s M : ℕ} {ws others : List ℕ} → Held 9 s M ws → 3 ≤ s → Words 9 M others → Held 9 (s - 1) M others

@@ -1,3 +1,4 @@
 pub mod CheckLaws
 pub mod GadgetLaws
 pub mod AdmitLaws
+pub mod CopyLaws

@@ -24,7 +24,7 @@ use Rattle.shares.proofs.MoveLaws.{move-length, move-to, move-from, move-other,
 use Rattle.halving.specs.Halving.{parity, moveParity, evened}
 use Rattle.halving.specs.AtOnce.{gathered, settled}
 
--- ---- the loop that gathers the parities
+-- ---- the last share with the parities of the first ones
 module _ (M : ℕ) (xs : List ℕ) (last : ℕ) where
   gathered-start : gathered M xs last 0 ≡ getD xs last 0
   unfolding gathered over
@@ -33,27 +33,6 @@ module _ (M : ℕ) (xs : List ℕ) (last : ℕ) where
   gathered-more : (i : ℕ) → gathered M xs last (i + 1) ≡ addMod M (gathered M xs last i) (parity (getD xs i 0))
   unfolding gathered
   gathered-more i = over-more _ i (getD xs last 0)
-
--- at turn i, end has the parities before i
-pub record Gathering (M : ℕ) (xs : List ℕ) (last i end : ℕ) : Type 0 where
-  pub most : i ≤ last
-  pub below : end < M
-  pub is : end ≡ gathered M xs last i
-
-pub gathering-start : {M : ℕ} {xs : List ℕ} {last : ℕ} → getD xs last 0 < M → Gathering M xs last 0 (getD xs last 0)
-gathering-start {M} {xs} {last} h = record { most = omega arith; below = h; is = sym (gathered-start M xs last) }
-
-module _ {M : ℕ} {xs : List ℕ} {last i end : ℕ} (a : Gathering M xs last i end) where
-  pub gathering-more : 2 ≤ M → i < last → {v : ℕ} → v ≡ addMod M end (parity (getD xs i 0)) → Gathering M xs last (i + 1) v
-  gathering-more two h e =
-      record {
-        most = omega arith;
-        below = rw e (sums M (omega arith) .add-below end (parity (getD xs i 0)) (a .below) (omega arith));
-        is = e ∙ ap (λ x. addMod M x (parity (getD xs i 0))) (a .is) ∙ sym (gathered-more M xs last i);
-      }
-
-  pub gathering-all : last ≤ i → end ≡ gathered M xs last last
-  gathering-all h = let e : i ≡ last = omega (arith, a .most) in a .is ∙ ap (gathered M xs last) e
 
 -- ---- the shares after k moves
 module _ (M : ℕ) (xs : List ℕ) (last : ℕ) where
@@ -113,28 +92,6 @@ evened-is M xs w two h = along-is _ xs _ (a .kept) (λ j l. go j l (ℕ-discrete
     go : (j : ℕ) → j < length xs → Dec (j ≡ last) → getD (over (moveParity M last) last xs) j 0 ≡ settled last (gathered M xs last last) j (getD xs j 0)
     go j l (yes e) = rw (eq-eqb j last e) (rw e (a .end))
     go j l (no n) = rw (ne-eqb j last n) (a .before j (omega (arith, n)))
-
--- ---- the same in an array of words with n shares
-gathered-take : (M n : ℕ) (ws : List ℕ) (last k : ℕ) → last < n → k ≤ last → gathered M (take n ws) last k ≡ gathered M ws last k
-unfolding gathered over
-gathered-take M n ws last zero h l = getD-take n ws last 0 h
-gathered-take M n ws last (suc k) h l = ap₂ (λ (e x : ℕ). addMod M e (parity x)) (gathered-take M n ws last k h (omega arith)) (getD-take n ws k 0 (omega arith))
-
-pub settled-words : {n M : ℕ} (last end : ℕ) {xs : List ℕ} → end < M → Words n M xs → Words n M (along (settled last end) xs)
-settled-words {M = M} last end h w = words-along _ w (λ i x l k. go (eqb i last) x k)
-  where
-    go : (b : Bool) (x : ℕ) → x < M → pick b end (x - parity x) < M
-    go true x k = h
-    go false x k = omega arith
-
-pub settled-take : {size n M : ℕ} {ws : List ℕ} → Held size n M ws → {end : ℕ} → end ≡ gathered M ws (n - 1) (n - 1) →
-    take n (along (settled (n - 1) end) ws) ≡ evened M (take n ws)
-settled-take {n = n} {M = M} {ws = ws} h {end} e =
-    let l : length (take n ws) ≡ n = length-take-le n ws (omega (arith, h .most, h .all .size)) in
-    take-along _ _ n ws (λ i x k. refl)
-    ∙ ap (λ (y : ℕ). along (settled (n - 1) y) (take n ws)) (e ∙ sym (gathered-take M n ws (n - 1) (n - 1) (omega (arith, h .least)) (omega arith)))
-    ∙ ap (λ (m : ℕ). along (settled (m - 1) (gathered M (take n ws) (m - 1) (m - 1))) (take n ws)) (sym l)
-    ∙ sym (evened-is M (take n ws) (record { size = refl; below = λ i k. rw (getD-take n ws i 0 (omega arith)) (h .all .below i (omega (arith, h .most))) }) (h .two) (omega (arith, h .least)))
 
 -- ---- what the moves keep, and what they give
 pub evened-keeps : (M n v : ℕ) (xs : List ℕ) → 2 ≤ M → 0 < n → Shares (arithmetic M) n v xs → Shares (arithmetic M) n v (evened M xs)

@@ -1,14 +1,12 @@
 -- Laws of one halving in an array: its steps on the first n words, and its run.
-use mathlib.Core.Path.{_≡_, refl, sym, ap, _∙_}
+use mathlib.Core.Path.{_≡_, sym, ap, _∙_}
 use mathlib.Core.List.{List}
 use Prim.Native.Nat.{ℕ, _*_, _<_}
 use native.Mathlib.Omega.{arith}
 use lib.ListN.{getD, take}
-use lib.Seq.{getD-take}
-use Rattle.numbers.specs.Modulo.{subMod}
 use Rattle.numbers.specs.Lists.{Words}
 use Rattle.numbers.proofs.GroupLaws.{sums}
-use Rattle.numbers.proofs.AlongLaws.{take-along, words-along}
+use Rattle.numbers.proofs.AlongLaws.{words-along}
 use Rattle.tape.specs.declared.Cursor.{Cursor}
 use Rattle.tape.specs.Tape.{ended, ran}
 use Rattle.draws.specs.Draws.{run}
@@ -23,22 +21,13 @@ pub halves-words : {n m : ℕ} {xs : List ℕ} → Words n (2 * m) xs → Words 
 unfolding halves
 halves-words w = words-along _ w (λ i x l k. omega arith)
 
-less-take : (M n : ℕ) (ps ws : List ℕ) → take n (less M ps ws) ≡ less M (take n ps) (take n ws)
-unfolding less
-less-take M n ps ws = take-along _ _ n ws (λ i x l. ap (subMod M x) (sym (getD-take n ps i 0 l)))
-
-halves-take : (n : ℕ) (ws : List ℕ) → take n (halves ws) ≡ halves (take n ws)
-unfolding halves
-halves-take n ws = take-along _ _ n ws (λ i x l. refl)
-
 module _ (m n : ℕ) (ws tape : List ℕ) (p : Cursor) where
   -- the steps after the shared parity, which make no draws
-  pub halving-ran : (ps zs ys rs : List ℕ) {c : Cursor} → run (sharedParity (2 * m) (take n ws)) tape p ≡ ran (take n ps) c →
-      zs ≡ less (2 * m) ps ws → take n ys ≡ evened (2 * m) (take n zs) → rs ≡ halves ys → ran (take n rs) c ≡ run (halving m (take n ws)) tape p
+  pub halving-ran : (ps rs : List ℕ) {c : Cursor} → run (sharedParity (2 * m) (take n ws)) tape p ≡ ran (take n ps) c →
+      take n rs ≡ halves (evened (2 * m) (less (2 * m) (take n ps) (take n ws))) → ran (take n rs) c ≡ run (halving m (take n ws)) tape p
   unfolding halving
-  halving-ran ps zs ys rs {c} e f g h =
-      ap (λ (l : List ℕ). ran l c) (ap (take n) h ∙ halves-take n ys ∙ ap halves (g ∙ ap (evened (2 * m)) (ap (take n) f ∙ less-take (2 * m) n ps ws)))
-      ∙ sym (bind-ran (sharedParity (2 * m) (take n ws)) _ tape p (take n ps) c e ∙ run-done _ tape c)
+  halving-ran ps rs {c} e f =
+      ap (λ (l : List ℕ). ran l c) f ∙ sym (bind-ran (sharedParity (2 * m) (take n ws)) _ tape p (take n ps) c e ∙ run-done _ tape c)
 
   pub halving-ended : run (sharedParity (2 * m) (take n ws)) tape p ≡ ended → ended ≡ run (halving m (take n ws)) tape p
   unfolding halving

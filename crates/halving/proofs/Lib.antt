@@ -1,4 +1,5 @@
 pub mod ParityLaws
 pub mod EvenLaws
+pub mod FinishLaws
 pub mod HalvingLaws
 pub mod ValueLaws

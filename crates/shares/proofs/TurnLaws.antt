@@ -1,11 +1,14 @@
 -- Laws of the turns of a refresh that are left: what the loops of both refreshes go by.
-use mathlib.Core.Path.{_≡_, sym, ap, _∙_}
+use mathlib.Core.Path.{_≡_, refl, sym, ap, _∙_}
 use mathlib.Core.List.{List}
 use Prim.Native.Nat.{ℕ, _+_, _-_, _≤_, _<_}
 use native.Mathlib.Omega.{arith}
+use native.Mathlib.Decide.{ℕ-discrete}
 use lib.ListN.{length, getD, set, take, length-set}
-use lib.Seq.{length-take-le, set-getD, set-set, set-comm, getD-set-same, getD-set-other}
+use lib.Seq.{length-take-le, getD-take, set-getD, set-set, set-comm, getD-set-same, getD-set-other}
 use Rattle.numbers.specs.Lists.{Words, change}
+use Rattle.numbers.proofs.WordsLaws.{words-set}
+use Rattle.numbers.proofs.AlongLaws.{along-is}
 use Rattle.tape.specs.declared.Cursor.{Cursor}
 use Rattle.tape.specs.declared.Draw.{Draw}
 use Rattle.tape.specs.declared.Draw.the-variants.{Got, Ended}
@@ -88,3 +91,69 @@ module _ {s : Sharing} {size n : ℕ} {tape : List ℕ} {x : Ran (List ℕ)} {i 
                 ∙ ap (λ (l : List ℕ). ran l c) (sym (ap (take n) (moved f o) ∙ move-take s (n - 1) i r (set words (n - 1) last-share) n (omega arith) (omega arith)))))
                 ∙ a .same;
           }
+
+-- the same where the refresh reads xs and writes ws: vs is what it would have made of xs in place
+pub record Writing (s : Sharing) (n : ℕ) (xs tape : List ℕ) (x : Ran (List ℕ)) (i : ℕ) (ws : List ℕ) (last-share : ℕ) (p : Cursor) : Type 0 where
+  pub vs : List ℕ
+  pub left : Remaining s 8 n tape x i vs last-share p
+  pub all : Words 8 (bound s) ws
+  pub most : i ≤ n - 1
+  pub written : (j : ℕ) → j < i → getD ws j 0 ≡ getD vs j 0
+  pub since : (j : ℕ) → i ≤ j → getD vs j 0 ≡ getD xs j 0
+
+pub writing-start : (s : Sharing) (n : ℕ) (xs zs tape : List ℕ) (p : Cursor) → Held 8 n (bound s) xs → Words 8 (bound s) zs →
+    Writing s n xs tape (run (refresh s (take n xs)) tape p) 0 zs (getD xs (n - 1) 0) p
+writing-start s n xs zs tape p h w =
+    record { vs = xs; left = remaining-start s 8 n xs tape p h; all = w; most = omega arith; written = λ j k. absurd (omega arith); since = λ j k. refl }
+
+module _ {s : Sharing} {n : ℕ} {xs tape : List ℕ} {x : Ran (List ℕ)} {i : ℕ} {ws : List ℕ} {last-share : ℕ} {p : Cursor} (a : Writing s n xs tape x i ws last-share p) where
+  room : n ≤ 8
+  room = a .left .held .most
+
+  least : 2 ≤ n
+  least = a .left .held .least
+
+  pub writing-words : Words 8 (bound s) (set ws (n - 1) last-share)
+  writing-words = words-set (a .all) (n - 1) (a .left .below)
+
+  -- at the end the first n words are the same
+  pub writing-none : n - 1 ≤ i → ran (take n (set ws (n - 1) last-share)) p ≡ x
+  writing-none h = ap (λ (l : List ℕ). ran l p) (along-is (λ j y. y) (take n (set (a .vs) (n - 1) last-share)) (take n (set ws (n - 1) last-share)) (mine ∙ sym other) (λ j k. at j (omega (arith, other)) (ℕ-discrete j (n - 1)))
+      ∙ sym (along-is (λ j y. y) (take n (set (a .vs) (n - 1) last-share)) (take n (set (a .vs) (n - 1) last-share)) refl (λ j k. refl))) ∙ remaining-none (a .left) h
+    where
+      mine : length (take n (set ws (n - 1) last-share)) ≡ n
+      mine = length-take-le n (set ws (n - 1) last-share) (omega (arith, length-set ws (n - 1) last-share, a .all .size, room))
+
+      other : length (take n (set (a .vs) (n - 1) last-share)) ≡ n
+      other = length-take-le n (set (a .vs) (n - 1) last-share) (omega (arith, length-set (a .vs) (n - 1) last-share, a .left .held .all .size, room))
+
+      at : (j : ℕ) → j < n → Dec (j ≡ n - 1) → getD (take n (set ws (n - 1) last-share)) j 0 ≡ getD (take n (set (a .vs) (n - 1) last-share)) j 0
+      at j k (yes e) =
+          getD-take n (set ws (n - 1) last-share) j 0 k
+          ∙ rw e (getD-set-same ws (n - 1) last-share 0 (omega (arith, a .all .size, room, least)) ∙ sym (getD-set-same (a .vs) (n - 1) last-share 0 (omega (arith, a .left .held .all .size, room, least))))
+          ∙ sym (getD-take n (set (a .vs) (n - 1) last-share) j 0 k)
+      at j k (no e) =
+          getD-take n (set ws (n - 1) last-share) j 0 k ∙ getD-set-other ws (n - 1) j last-share 0 e ∙ a .written j (omega (arith, e))
+          ∙ sym (getD-set-other (a .vs) (n - 1) j last-share 0 e) ∙ sym (getD-take n (set (a .vs) (n - 1) last-share) j 0 k)
+
+  module _ (h : i < n - 1) (d : Draw) (told : drawStandsFor d ≡ drawAt tape p (bound s)) {r : ℕ} {c : Cursor} (e : d ≡ Got r c) where
+    pub writing-more : {v w : ℕ} → v ≡ plus s (getD xs i 0) r → w ≡ minus s last-share r → Writing s n xs tape x (i + 1) (set ws i v) w c
+    writing-more {v} {w} f o =
+        record {
+          vs = set (a .vs) i v;
+          left = more;
+          all = words-set (a .all) i (rw (sym placed) (held-at (more .held) i));
+          most = omega arith;
+          written = λ j k. go j k (ℕ-discrete j i);
+          since = λ j k. getD-set-other (a .vs) i j v 0 (omega arith) ∙ a .since j (omega arith);
+        }
+      where
+        more : Remaining s 8 n tape x (i + 1) (set (a .vs) i v) w c
+        more = remaining-more (a .left) h d told e (f ∙ ap (λ y. plus s y r) (sym (a .since i (omega arith)))) o
+
+        placed : getD (set (a .vs) i v) i 0 ≡ v
+        placed = getD-set-same (a .vs) i v 0 (omega (arith, a .left .held .all .size, room))
+
+        go : (j : ℕ) → j < i + 1 → Dec (j ≡ i) → getD (set ws i v) j 0 ≡ getD (set (a .vs) i v) j 0
+        go j k (yes g) = rw g (getD-set-same ws i v 0 (omega (arith, a .all .size, room)) ∙ sym placed)
+        go j k (no g) = getD-set-other ws i j v 0 g ∙ a .written j (omega (arith, g)) ∙ sym (getD-set-other (a .vs) i j v 0 g)

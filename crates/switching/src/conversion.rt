@@ -40,7 +40,7 @@ pub fn to_modulus(
     let e = carries.words;
     let after = carries.cursor;
     Shared {
-        words: without(x, e, k, modulus),
+        words: without(x, e, n, k, modulus),
         cursor: after,
         ok: true,
     }

@@ -86,18 +86,23 @@ fn less(x: u32, e: u32, k: u32, m: u32) -> u32
     reduce(x as u64 + power(k) as u64 * (m - e) as u64, m)
 }
 
+// The same of each of the n shares. The pass ends at n, so the compiler reads what the shift gave one by one, as the shift stored it.
 pub fn without(
     shares: [u32; Params::MOST],
     e: [u32; Params::MOST],
+    n: usize,
     k: u32,
     m: u32,
 ) -> [u32; Params::MOST]
-    requires { ⌜ (k ≤ 31) × (2 ≤ m) × Words 8 m e ⌝ }
-    ensures { λ r. ⌜ r ≡ without m (2 ^ k) e shares ⌝ }
+    requires { ⌜ (k ≤ 31) × (2 ≤ m) × (n ≤ 8) × Words 8 m e ⌝ }
+    ensures { λ r. ⌜ Words 8 m r × (take n r ≡ without m (2 ^ k) (take n e) (take n shares)) ⌝ }
 {
-    let mut words = shares;
+    let mut words = [0u32; Params::MOST];
     for i in 0..Params::MOST {
-        words[i] = less(words[i], e[i], k, m);
+        if i == n {
+            return words;
+        }
+        words[i] = less(shares[i], e[i], k, m);
     }
     words
 }

@@ -21,7 +21,6 @@ use Rattle.draws.proofs.RunLaws.{run-done, part-ran, part-ended}
 use Rattle.shares.specs.Sharing.{arithmetic, addToFirst, takeFromFirst}
 use Rattle.shares.proofs.FirstLaws.{added-take, added-words, taken-take, taken-words}
 use Rattle.switching.specs.Switching.{carries, without}
-use Rattle.switching.proofs.StepLaws.{without-take, without-words}
 use Rattle.widening.specs.Widening.{wide, widened, widenShift, widen}
 
 -- the multiple of q that is taken from a share is below the widened modulus
@@ -51,11 +50,10 @@ module _ {n t : ℕ} (k : Bounds) (ws tape : List ℕ) (p : Cursor) (pos : 0 < n
   widen-ended = part-ended _ _ tape p (whole-is k ws pos most is)
 
   pub widen-ran : (es : List ℕ) {c : Cursor} → run (carries (2 ^ k .rho) t (2 ^ t) q (take n ys)) tape p ≡ ran (take n es) c →
-      {rs : List ℕ} → rs ≡ takeFromFirst (widened k) (k .b) (without (wide k) q es ys) → ran (take n rs) c ≡ run (widen k (take n ws)) tape p
+      (ms : List ℕ) {rs : List ℕ} → take n ms ≡ without (wide k) q (take n es) (take n ys) → rs ≡ takeFromFirst (widened k) (k .b) ms → ran (take n rs) c ≡ run (widen k (take n ws)) tape p
   unfolding taken-off
-  widen-ran es {c} e {rs} f =
-      ap (λ xs. ran xs c)
-      (ap (take n) f ∙ taken-take (widened k) (k .b) n (without (wide k) q es ys) pos ∙ ap (takeFromFirst (widened k) (k .b)) (without-take (wide k) q n es ys))
+  widen-ran es {c} e ms {rs} g f =
+      ap (λ xs. ran xs c) (ap (take n) f ∙ taken-take (widened k) (k .b) n ms pos ∙ ap (takeFromFirst (widened k) (k .b)) g)
       ∙ sym (part-ran _ _ tape p (whole-is k ws pos most is) e ∙ run-done (taken-off k (take n ys) (take n es)) tape c)
 
 -- the words that are handed on, all eight
@@ -72,8 +70,8 @@ module _ {k : Bounds} (h : KindLaws k) where
   pub reach-wide : k .b < wide k
   reach-wide = omega (arith, reach-below h, wide-least)
 
-  pub widened-words : (es : List ℕ) {ys : List ℕ} → Words 8 q ys → Words 8 (wide k) (takeFromFirst (widened k) (k .b) (without (wide k) q es ys))
-  widened-words es w = taken-words (widened k) (k .b) (omega (arith, wide-least)) reach-wide (without-words (wide k) q es (omega (arith, wide-least)) w)
+  pub widened-words : {ms : List ℕ} → Words 8 (wide k) ms → Words 8 (wide k) (takeFromFirst (widened k) (k .b) ms)
+  widened-words w = taken-words (widened k) (k .b) (omega (arith, wide-least)) reach-wide w
 
   -- 2^(α+1+ρ) has room for the floors, and for n − 1
   pub floors-room : (n : ℕ) → 2 ^ (alpha n + 1) ≤ 2 ^ (alpha n + 1) * 2 ^ k .rho

@@ -28,20 +28,24 @@ pub fn wide(k: Bounds) -> u32
     power(k.rho) * Params::Q
 }
 
-// x − q·e mod m of each word x and its carry e. With x below q and e below the factor 2^rho, both x and q·e are below m = 2^rho·q, so this needs no
-// remainder.
+// x − q·e mod m of each of the n shares x and its carry e. With x below q and e below the factor 2^rho, both x and q·e are below m = 2^rho·q, so this
+// needs no remainder. The pass ends at n, so the compiler reads the carries one by one: in fours they would have to wait for the shift's single stores.
 fn without_carries(
     shares: [u32; Params::MOST],
     carries: [u32; Params::MOST],
+    n: usize,
     factor: u32,
     m: u32,
 ) -> [u32; Params::MOST]
-    requires { ⌜ (m ≡ factor * q) × (1 ≤ factor) × Words 8 q shares × Words 8 factor carries ⌝ }
-    ensures { λ r. ⌜ r ≡ without m q carries shares ⌝ }
+    requires { ⌜ (m ≡ factor * q) × (1 ≤ factor) × (n ≤ 8) × Words 8 q shares × Words 8 factor carries ⌝ }
+    ensures { λ r. ⌜ Words 8 m r × (take n r ≡ without m q (take n carries) (take n shares)) ⌝ }
 {
-    let mut words = shares;
+    let mut words = [0u32; Params::MOST];
     for i in 0..Params::MOST {
-        words[i] = sub_mod(words[i], Params::Q * carries[i], m);
+        if i == n {
+            return words;
+        }
+        words[i] = sub_mod(shares[i], Params::Q * carries[i], m);
     }
     words
 }
@@ -67,7 +71,7 @@ pub fn widen(
     let after = carries.cursor;
     let m = wide(k);
     Shared {
-        words: take_from_first(without_carries(x, e, factor, m), k.b, m),
+        words: take_from_first(without_carries(x, e, n, factor, m), k.b, m),
         cursor: after,
         ok: true,
     }

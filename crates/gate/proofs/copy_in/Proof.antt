@@ -1,28 +1,25 @@
 use borrow.Author.Needs.{needs}
-use mathlib.Core.Path.{refl}
 use Prim.Native.Nat.{_-_}
-use lib.ListN.{length}
-use Rattle.shares.proofs.ArraysLaws.{Copying, copying-start, copying-more, copying-all}
+use lib.ListN.{getD}
+use Rattle.numbers.proofs.AlongLaws.{Along, along-start, along-more}
+use Rattle.gate.proofs.CopyLaws.{copied}
 use Rattle.gate.proofs.copy_in.Statement.{statement}
 use Rattle.gate.proofs.copy_in.Tie as tie
 
 abbrev Inv-loop : tie.InvT-loop
-Inv-loop shares words₀ i₀ words i = Copying 8 shares i words
+Inv-loop shares words₀ i₀ words i = Along 8 (λ j x. getD shares j 0) words₀ i words
 
 abbrev μ-loop : tie.MeasureT-loop
-μ-loop shares words₀ i₀ words i = length shares - i
+μ-loop shares words₀ i₀ words i = 8 - i
 
 loop-holds : tie.Need-loop-holds Inv-loop μ-loop
-loop-holds c = copying-start _ (search needs)
+loop-holds c = along-start (search needs)
+
+word-at-requires : tie.Need-word-at-requires Inv-loop μ-loop
+word-at-requires c κs = search needs
 
 mul-words : tie.Need-mul-words Inv-loop μ-loop
 mul-words c = search needs
-
-shared-slice-read-words : tie.Need-shared-slice-read-words Inv-loop μ-loop
-shared-slice-read-words c = search needs
-
-mul-words-2 : tie.Need-mul-words-2 Inv-loop μ-loop
-mul-words-2 c = search needs
 
 array-write-words : tie.Need-array-write-words Inv-loop μ-loop
 array-write-words c = search needs
@@ -34,10 +31,10 @@ loop-less : tie.Need-loop-less Inv-loop μ-loop
 loop-less c = search needs
 
 loop-again : tie.Need-loop-again Inv-loop μ-loop
-loop-again c = copying-more (c .before .before .loop .inv) (c .before .loop-test .taken) refl
+loop-again c = along-more (c .before .before .loop .inv) (c .before .loop-test .taken) (c .word-at .ensures)
 
 returns : tie.Need-returns Inv-loop μ-loop
-returns c = copying-all (c .before .loop .inv) (c .loop-test .left)
+returns c = copied (search needs) (c .before .loop .inv) (c .loop-test .left)
 
 pub copy-in-spec : {M : Type 1} → statement M
 copy-in-spec =
@@ -46,9 +43,8 @@ copy-in-spec =
     Inv-loop
     μ-loop
     loop-holds
+    word-at-requires
     mul-words
-    shared-slice-read-words
-    mul-words-2
     array-write-words
     add-i
     loop-less

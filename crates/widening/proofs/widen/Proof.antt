@@ -1,5 +1,5 @@
 use borrow.Author.Needs.{needs}
-use mathlib.Core.Path.{_≡_, refl, sym, ap, ap₂, _∙_}
+use mathlib.Core.Path.{_≡_, refl, sym, ap, _∙_}
 use Prim.Native.Nat.{_+_, _*_, _^_, _≤_}
 use native.Mathlib.Omega.{arith}
 use lib.Pow.{pow-pos}
@@ -14,7 +14,6 @@ use Rattle.shares.specs.Arrays.{Held, Gave}
 use Rattle.shares.specs.Sharing.{arithmetic, addToFirst, takeFromFirst}
 use Rattle.shares.proofs.ArraysLaws.{held-of, gave, stopped, whole, cut-off}
 use Rattle.switching.specs.Switching.{carries, without}
-use Rattle.switching.proofs.StepLaws.{without-words}
 use Rattle.widening.specs.Widening.{wide, widened}
 use Rattle.widening.proofs.StepLaws.{offset-words, reach-wide, widened-words, floors-room, count-room, widen-ended, widen-ran}
 use Rattle.widening.proofs.widen.Statement.{statement}
@@ -38,20 +37,25 @@ carried c =
     let a = c .before .before .before in
     rw (sym (c .before .before .power .ensures), sym (c .before .power2 .ensures), sym (a .before .add-to-first .ensures)) (c .carries-by-q .ensures)
 
--- and what is made of them
-result : (c : tie.After-take-from-first) →
-    let y = c .before .before .before .before .before .before .before in
+-- the shares without them
+middle : (c : tie.After-without-carries) →
+    let y = c .before .before .before .before .before .before in
     let s = y .before .before .before .before .before .before in
     let k = s .args .k in
-    c .take-from-first .result ≡ takeFromFirst (widened k) (k .b) (without (wide k) q (y .carries-by-q .result .words) (addToFirst (arithmetic q) (k .b) (s .args .shares)))
+    let n = s .args .n in
+    take n (c .without-carries .result) ≡ without (wide k) q (take n (y .carries-by-q .result .words)) (take n (addToFirst (arithmetic q) (k .b) (s .args .shares)))
+middle c =
+    let y = c .before .before .before .before .before .before in
+    rw (sym (c .before .wide .ensures), sym (y .before .before .before .before .add-to-first .ensures)) (c .without-carries .ensures .1)
+
+-- and b taken away again
+result : (c : tie.After-take-from-first) →
+    let k = c .before .before .before .before .before .before .before .before .before .before .before .before .before .args .k in
+    c .take-from-first .result ≡ takeFromFirst (widened k) (k .b) (c .before .without-carries .result)
 result c =
     let w = c .before .before in
-    let y = w .before .before .before .before .before in
-    let x = y .before .before .before .before in
-    let k = x .before .before .args .k in
-    c .take-from-first .ensures
-    ∙ ap (takeFromFirst (arithmetic (w .wide .result)) (k .b)) (c .before .without-carries .ensures)
-    ∙ ap₂ (λ m ys. takeFromFirst (arithmetic m) (k .b) (without m q (y .carries-by-q .result .words) ys)) (w .wide .ensures) (x .add-to-first .ensures)
+    let b = w .before .before .before .before .before .before .before .before .before .before .before .args .k .b in
+    c .take-from-first .ensures ∙ ap (λ m. takeFromFirst (arithmetic m) b (c .before .without-carries .result)) (w .wide .ensures)
 
 few : (c : tie.After-alpha) → c .alpha .result ≤ 3
 few c = rw (c .alpha .ensures) (alpha-most _ (c .before .before .before .pre .1 .most))
@@ -95,13 +99,13 @@ without-carries-requires c κs = let e = c .before .before .before in
     let w = y .before .before in
     let a = w .before in
     let r = a .before .before .before .pre .0 in
-    (c .wide .ensures ∙ ap (λ p. p * q) (sym (w .power .ensures)), rw (w .power .ensures) (pow-pos (a .before .before .before .args .k .rho)), offset a .all, y .carries-by-q .ensures .below (not-false _ (e .if1 .left)))
+    (c .wide .ensures ∙ ap (λ p. p * q) (sym (w .power .ensures)), rw (w .power .ensures) (pow-pos (a .before .before .before .args .k .rho)), a .before .before .before .pre .1 .most, offset a .all, y .carries-by-q .ensures .below (not-false _ (e .if1 .left)))
 
 take-from-first-requires : tie.Need-take-from-first-requires
 take-from-first-requires c κs = let e = c .before .before .before .before in
     let a = e .before .before .before .before .before in
     let r = a .before .before .before .pre .0 in
-    rw (c .without-carries .ensures, c .before .wide .ensures) (reach-wide r, without-words _ q _ (omega (arith, reach-wide r)) (offset a .all))
+    (rw (c .before .wide .ensures) (reach-wide r), c .without-carries .ensures .0)
 
 returns-2 : tie.Need-returns-2
 returns-2 c = let v = c .before in
@@ -111,8 +115,8 @@ returns-2 c = let v = c .before in
     let s = a .before .before .before in
     let r = s .pre .0 in
     let is = result c in
-    whole refl (rw is (widened-words r _ (offset-words r (s .pre .1 .all))))
-    (widen-ran _ _ _ _ (omega (arith, s .pre .1 .least)) (fit a) (ap (λ j. j + 1) (a .alpha .ensures)) _ (gave (carried y) (e .if1 .left)) is)
+    whole refl (rw is (widened-words r (rw (sym (v .before .wide .ensures)) (v .without-carries .ensures .0))))
+    (widen-ran _ _ _ _ (omega (arith, s .pre .1 .least)) (fit a) (ap (λ j. j + 1) (a .alpha .ensures)) _ (gave (carried y) (e .if1 .left)) _ (middle v) is)
 
 pub widen-spec : {M : Type 1} → statement M
 widen-spec =

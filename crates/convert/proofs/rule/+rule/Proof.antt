@@ -6,7 +6,6 @@ use lib.ListN.{take}
 use lib.Pow.{pow-pos}
 use borrow.Author.Tests.{not-false}
 use denote.Ref.{now}
-use Rattle.numbers.specs.Modulo.{xor}
 use Rattle.numbers.specs.Lists.{Words}
 use Rattle.numbers.proofs.WordsLaws.{words-at}
 use Rattle.tape.specs.Tape.{ran}
@@ -15,7 +14,7 @@ use Rattle.shares.specs.Sharing.{boolean}
 use Rattle.shares.specs.Refresh.{refresh}
 use Rattle.shares.proofs.ArraysLaws.{gave, stopped, whole, cut-off}
 use Rattle.convert.proofs.ListLaws.{z-words}
-use Rattle.convert.proofs.RuleLaws.{rule-two, held-shorter, u-words, refresh-ended, u-ended, z-ended, rule-gave}
+use Rattle.convert.proofs.RuleLaws.{rule-three, held-shorter, u-words, refresh-ended, u-ended, z-ended, rule-gave}
 use borrow.Fn.Kinds.{In}
 use borrow.Fn.PlainCycle.{Measures, is, falls, and}
 use Rattle.convert.proofs.rule.+rule.{statement}
@@ -28,6 +27,7 @@ use Rattle.convert.proofs.lists.u_of.Reads as u-of-reads
 use Rattle.convert.proofs.lists.z_of.Reads as z-of-reads
 use Rattle.shares.proofs.Shared.ended.Reads as ended-reads
 use Rattle.convert.proofs.nine.refresh_nine.Reads as refresh-nine-reads
+use Rattle.convert.proofs.rule.of_three.Reads as of-three-reads
 
 abbrev μ-rule : Measures 1 rule-kinds.ps ℕ
 μ-rule κs a = a .1 .0
@@ -40,7 +40,7 @@ rule-below t = and 1 rule-kinds.ps (falls 1 rule-kinds.ps _<_ μ-rule t) rule.Pr
 
 -- what the calls ask and what they teach
 abbrev calls : ℕ → rule-lts.Claims
-calls t = (refresh-nine-reads.Asked, refresh-nine-reads.Learnt, ended-reads.Asked, ended-reads.Learnt, u-of-reads.Asked, u-of-reads.Learnt, rule-below t, rule.Post, z-of-reads.Asked, z-of-reads.Learnt, added-reads.Asked, added-reads.Learnt)
+calls t = (of-three-reads.Asked, of-three-reads.Learnt, refresh-nine-reads.Asked, refresh-nine-reads.Learnt, ended-reads.Asked, ended-reads.Learnt, u-of-reads.Asked, u-of-reads.Learnt, rule-below t, rule.Post, z-of-reads.Asked, z-of-reads.Learnt, added-reads.Asked, added-reads.Learnt)
 
 -- the places of the code that the answers speak of
 abbrev Refreshed : ℕ → Type 0
@@ -59,7 +59,10 @@ abbrev on-u : {t : ℕ} → OnZ t → OnU t
 on-u c = c .before .before .before .before .before .before
 
 big : {t : ℕ} (c : Refreshed t) → 3 ≤ c .before .before .before .args .s
-big c = let s = c .before .before .before in omega (arith, c .before .if1 .left, s .pre .1 .1 .least)
+big c = c .before .before .before .pre .1 .1
+
+more : {t : ℕ} (c : Refreshed t) → 4 ≤ c .before .before .before .args .s
+more c = omega (arith, c .before .if1 .left, big c)
 
 fresh-words : {t : ℕ} (c : OnU t) → let r = refreshed c in Words 9 (2 ^ r .before .before .before .args .k) (r .refresh-nine .result .words)
 fresh-words c = refreshed c .refresh-nine .ensures .below (not-false _ (c .before .before .before .if2 .left))
@@ -67,7 +70,7 @@ fresh-words c = refreshed c .refresh-nine .ensures .below (not-false _ (c .befor
 gave-fresh : {t : ℕ} (c : OnU t) →
     let r = refreshed c in
     let a = r .before .before .before .args in
-    run (refresh (boolean (a .k)) (take (a .s) (a .t1))) (now (a .tape)) (a .cursor) ≡ ran (take (a .s) (r .refresh-nine .result .words)) (r .refresh-nine .result .cursor)
+    run (refresh (boolean (a .k)) (take (a .s) (a .shares))) (now (a .tape)) (a .cursor) ≡ ran (take (a .s) (r .refresh-nine .result .words)) (r .refresh-nine .result .cursor)
 gave-fresh c = gave (refreshed c .refresh-nine .ensures) (c .before .before .before .if2 .left)
 
 u-below : {t : ℕ} (c : OnU t) → Words 9 (2 ^ refreshed c .before .before .before .args .k) (c .u-of .result)
@@ -76,15 +79,11 @@ u-below c = u-words (pow-pos _) (fresh-words c) (c .u-of .ensures)
 z-below : {t : ℕ} (c : OnZ t) → Words 9 (2 ^ refreshed (on-u c) .before .before .before .args .k) (c .z-of .result)
 z-below c = let o = on-u c in subst (Words 9 _) (sym (c .z-of .ensures)) (z-words _ _ _ (words-at (pow-pos _) (fresh-words o) 0) (u-below o))
 
-rule-array-read-t20 : (t : ℕ) → rule-lts.Need-array-read-t20 (calls t) (rule-at t) rule.Post
-rule-array-read-t20 t c = search needs
-
-rule-array-read-t23 : (t : ℕ) → rule-lts.Need-array-read-t23 (calls t) (rule-at t) rule.Post
-rule-array-read-t23 t c = search needs
+rule-of-three-requires : (t : ℕ) → rule-lts.Need-of-three-requires (calls t) (rule-at t) rule.Post
+rule-of-three-requires t c κs = let p = c .before .before .pre .1 in (p .0, rw (sym (c .if1 .taken)) (p .2))
 
 rule-returns : (t : ℕ) → rule-lts.Need-returns (calls t) (rule-at t) rule.Post
-unfolding xor
-rule-returns t c = rule-two _ _ _ (c .before .before .pre .1 .1) (c .if1 .taken) refl
+rule-returns t c = rule-three _ _ _ _ (c .before .if1 .taken) (c .of-three .ensures)
 
 rule-refresh-nine-requires : (t : ℕ) → rule-lts.Need-refresh-nine-requires (calls t) (rule-at t) rule.Post
 rule-refresh-nine-requires t c κs = search needs
@@ -105,7 +104,7 @@ rule-rule-requires : (t : ℕ) → rule-lts.Need-rule-requires (calls t) (rule-a
 rule-rule-requires t c κs =
     let r = refreshed c in
     let s = r .before .before .before in
-    (omega (arith, s .pre .0, big r), (s .pre .1 .0, held-shorter (s .pre .1 .1) (big r) (u-below c)))
+    (omega (arith, s .pre .0, big r), (s .pre .1 .0, omega (arith, more r), held-shorter (s .pre .1 .2) (big r) (u-below c)))
 
 rule-ended-requires-2 : (t : ℕ) → rule-lts.Need-ended-requires-2 (calls t) (rule-at t) rule.Post
 rule-ended-requires-2 t c κs = search needs
@@ -115,7 +114,7 @@ rule-returns-3 t c =
     let a = c .before .before .before in
     let o = a .before in
     let r = refreshed o in
-    cut-off (c .ended2 .ensures) (u-ended _ (big r) _ _ _ _ (fresh-words o .size) (r .before .before .before .pre .1 .1 .most)
+    cut-off (c .ended2 .ensures) (u-ended _ (big r) _ _ _ _ (fresh-words o .size) (r .before .before .before .pre .1 .2 .most)
     (gave-fresh o) (o .u-of .ensures) (stopped (a .rule .ensures) (c .before .if3 .taken)))
 
 rule-array-read-z-of : (t : ℕ) → rule-lts.Need-array-read-z-of (calls t) (rule-at t) rule.Post
@@ -132,7 +131,7 @@ rule-rule-requires-2 t c κs =
     let o = on-u c in
     let r = refreshed o in
     let s = r .before .before .before in
-    (omega (arith, s .pre .0, big r), (s .pre .1 .0, held-shorter (s .pre .1 .1) (big r) (z-below c)))
+    (omega (arith, s .pre .0, big r), (s .pre .1 .0, omega (arith, more r), held-shorter (s .pre .1 .2) (big r) (z-below c)))
 
 rule-ended-requires-3 : (t : ℕ) → rule-lts.Need-ended-requires-3 (calls t) (rule-at t) rule.Post
 rule-ended-requires-3 t c κs = search needs
@@ -143,7 +142,7 @@ rule-returns-4 t c =
     let z = b .before in
     let o = on-u z in
     let r = refreshed o in
-    cut-off (c .ended3 .ensures) (z-ended _ (big r) _ _ _ _ (fresh-words o .size) (r .before .before .before .pre .1 .1 .most)
+    cut-off (c .ended3 .ensures) (z-ended _ (big r) _ _ _ _ (fresh-words o .size) (r .before .before .before .pre .1 .2 .most)
     (gave-fresh o) (o .u-of .ensures)
     (gave (z .before .before .before .before .before .rule .ensures) (z .before .before .before .if3 .left)) (z .z-of .ensures)
     (stopped (b .rule2 .ensures) (c .before .if4 .taken)))
@@ -158,7 +157,7 @@ rule-added-requires t c κs =
     let r = refreshed (on-u z) in
     let s = r .before .before .before in (
       omega (arith, big r),
-      omega (arith, s .pre .1 .1 .most),
+      omega (arith, s .pre .1 .2 .most),
       s .pre .1 .0,
       z .before .before .before .before .before .rule .ensures .below (not-false _ (z .before .before .before .if3 .left)),
       b .rule2 .ensures .below (not-false _ (c .before .before .if4 .left)),
@@ -171,7 +170,7 @@ rule-returns-5 t c =
     let z = b .before in
     let o = on-u z in
     let r = refreshed o in
-    whole refl (c .added .ensures .0) (rule-gave _ (big r) _ _ _ _ (fresh-words o .size) (r .before .before .before .pre .1 .1 .most)
+    whole refl (c .added .ensures .0) (rule-gave _ (big r) _ _ _ _ (fresh-words o .size) (r .before .before .before .pre .1 .2 .most)
     (gave-fresh o) (o .u-of .ensures)
     _ (gave (z .before .before .before .before .before .rule .ensures) (z .before .before .before .if3 .left)) (z .z-of .ensures)
     _ (gave (b .rule2 .ensures) (e .if4 .left)) _ (c .added .ensures .1))
@@ -180,8 +179,7 @@ pub +rule-spec : {M : Type 1} → statement M
 +rule-spec = close μ-rule λ t. rule-lts.spec (calls t)
     (rule-at t)
     rule.Post
-    (rule-array-read-t20 t)
-    (rule-array-read-t23 t)
+    (rule-of-three-requires t)
     (rule-returns t)
     (rule-refresh-nine-requires t)
     (rule-ended-requires t)

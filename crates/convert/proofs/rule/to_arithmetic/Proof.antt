@@ -1,4 +1,5 @@
 use borrow.Author.Needs.{needs}
+use native.Mathlib.Omega.{arith}
 use Rattle.convert.proofs.RuleLaws.{zero-held, zero-gave}
 use Rattle.convert.proofs.rule.to_arithmetic.Statement.{statement}
 use Rattle.convert.proofs.rule.to_arithmetic.Tie as tie
@@ -16,7 +17,7 @@ add-rule : tie.Need-add-rule
 add-rule c = search needs
 
 rule-requires : tie.Need-rule-requires
-rule-requires c κs = let p = c .before .before .pre in (p .0, zero-held _ (p .1) (c .into-nine .ensures))
+rule-requires c κs = let p = c .before .before .pre in (p .0, omega (arith, p .1 .least), zero-held _ (p .1) (c .into-nine .ensures))
 
 returns : tie.Need-returns
 returns c = zero-gave _ (c .before .before .before .pre .1) (c .before .into-nine .ensures) _ _ (c .rule .ensures)

@@ -14,7 +14,7 @@ use Rattle.draws.specs.Draws.{run}
 use Rattle.shares.specs.Arrays.{Held, Gave}
 use Rattle.shares.proofs.ArraysLaws.{held-below, given-as, gave, stopped, whole, cut-off}
 use Rattle.switching.specs.Switching.{raisedShift, carries}
-use Rattle.switching.proofs.StepLaws.{floors-held, floors-take, quotient-small, quotient-is, without-take, without-words}
+use Rattle.switching.proofs.StepLaws.{floors-held, floors-take, quotient-small, quotient-is}
 use Rattle.switching.proofs.SwitchLaws.{convert-ended, carries-ended, switched}
 use Rattle.switching.proofs.conversion.to_modulus.Statement.{statement}
 use Rattle.switching.proofs.conversion.to_modulus.Tie as tie
@@ -108,7 +108,7 @@ without-requires c κs =
     let e = c .before .before in
     let r = e .before .before in
     let a = r .before .before .before .before .before .before .before in
-    (short a, a .before .before .pre .1, r .raised-shift .ensures .below (not-false _ (e .if2 .left)))
+    (short a, a .before .before .pre .1, a .before .before .pre .3 .most, r .raised-shift .ensures .below (not-false _ (e .if2 .left)))
 
 returns-3 : tie.Need-returns-3
 returns-3 c =
@@ -117,9 +117,9 @@ returns-3 c =
     let x = r .before .before .before .before in
     let t = x .before .before in
     let s = t .before .before .before in
-    whole refl (rw (c .without .ensures) (without-words _ _ _ (omega (arith, s .pre .1)) (held-x x .all)))
+    whole refl (c .without .ensures .0)
     (switched _ _ _ _ _ (fit (t .before)) (t .before .alpha .ensures) (gave (t .to-arithmetic .ensures) (x .if1 .left)) (gave (carried r) (e .if2 .left))
-    (ap (take (s .args .n)) (c .without .ensures) ∙ without-take _ _ (s .args .n) (r .raised-shift .result .words) (t .to-arithmetic .result .words)))
+    (c .without .ensures .1))
 
 pub to-modulus-spec : {M : Type 1} → statement M
 to-modulus-spec =

@@ -1,22 +1,22 @@
 use borrow.Author.Needs.{needs}
-use Prim.Native.Nat.{_-_, _*_, _^_}
+use Prim.Native.Nat.{_-_, _^_}
 use native.Mathlib.Omega.{arith}
-use lib.ListN.{getD}
-use Rattle.numbers.specs.Modulo.{subMod}
-use Rattle.numbers.proofs.AlongLaws.{Along, along-start, along-more, along-all}
-use Rattle.numbers.proofs.WordsLaws.{words-at}
-use Rattle.switching.specs.Switching.{without}
+use Rattle.numbers.proofs.WordsLaws.{words-at, words-same}
+use Rattle.switching.proofs.StepLaws.{Taking, taking-start, taking-more, taking-all}
 use Rattle.switching.proofs.steps.without.Statement.{statement}
 use Rattle.switching.proofs.steps.without.Tie as tie
 
 abbrev Inv-loop : tie.InvT-loop
-Inv-loop k m e words₀ i₀ words i = Along 8 (λ j x. subMod m x (2 ^ k * getD e j 0)) words₀ i words
+Inv-loop n k m shares e words₀ i₀ words i = Taking m (2 ^ k) n e shares words₀ i words
 
 abbrev μ-loop : tie.MeasureT-loop
-μ-loop k m e words₀ i₀ words i = 8 - i
+μ-loop n k m shares e words₀ i₀ words i = 8 - i
 
 loop-holds : tie.Need-loop-holds Inv-loop μ-loop
-loop-holds c = along-start (search needs)
+loop-holds c = let two = c .pre .1 in taking-start (search needs) (omega arith) (words-same (omega arith))
+
+returns : tie.Need-returns Inv-loop μ-loop
+returns c = taking-all (c .before .before .loop .inv) (omega (arith, c .if1 .taken))
 
 mul-less : tie.Need-mul-less Inv-loop μ-loop
 mul-less c = search needs
@@ -31,7 +31,7 @@ array-read-less-2 : tie.Need-array-read-less-2 Inv-loop μ-loop
 array-read-less-2 c = search needs
 
 less-requires : tie.Need-less-requires Inv-loop μ-loop
-less-requires c κs = let (k, two, w) = c .before .before .pre in (k, two, words-at (omega arith) w _)
+less-requires c κs = let (k, two, _, w) = c .before .before .before .pre in (k, two, words-at (omega arith) w _)
 
 mul-words : tie.Need-mul-words Inv-loop μ-loop
 mul-words c = search needs
@@ -46,11 +46,10 @@ loop-less : tie.Need-loop-less Inv-loop μ-loop
 loop-less c = search needs
 
 loop-again : tie.Need-loop-again Inv-loop μ-loop
-loop-again c = along-more (c .before .before .loop .inv) (c .before .loop-test .taken) (c .less .ensures)
+loop-again c = let l = c .before .before .before in taking-more (l .loop .inv) (c .before .before .loop-test .taken) (c .before .if1 .left) (c .less .ensures)
 
-returns : tie.Need-returns Inv-loop μ-loop
-unfolding without
-returns c = along-all (c .before .loop .inv) (c .loop-test .left)
+returns-2 : tie.Need-returns-2 Inv-loop μ-loop
+returns-2 c = let l = c .before in taking-all (l .loop .inv) (omega (arith, l .before .pre .2, c .loop-test .left))
 
 pub without-spec : {M : Type 1} → statement M
 without-spec =
@@ -59,6 +58,7 @@ without-spec =
     Inv-loop
     μ-loop
     loop-holds
+    returns
     mul-less
     array-read-less
     mul-less-2
@@ -69,4 +69,4 @@ without-spec =
     add-i
     loop-less
     loop-again
-    returns)
+    returns-2)
