@@ -22,9 +22,16 @@ use Rattle.shares.specs.Arrays.{Held}
 use Rattle.shares.proofs.SharingLaws.{Shares}
 use Rattle.shares.proofs.MoveLaws.{move-length, move-to, move-from, move-other, move-keeps}
 use Rattle.halving.specs.Halving.{parity, moveParity, evened}
-use Rattle.halving.specs.AtOnce.{gathered, settled}
 
 -- ---- the last share with the parities of the first ones
+-- where the parities move, the last share with those of the first k shares added
+unfoldable pub gathered : ℕ → List ℕ → ℕ → ℕ → ℕ
+gathered M xs last k = over (λ i e. addMod M e (parity (getD xs i 0))) k (getD xs last 0)
+
+-- and the word that takes the place of x at i: the last share so gathered, or x without its parity
+abbrev pub settled : ℕ → ℕ → ℕ → ℕ → ℕ
+settled last end i x = pick (eqb i last) end (x - parity x)
+
 module _ (M : ℕ) (xs : List ℕ) (last : ℕ) where
   gathered-start : gathered M xs last 0 ≡ getD xs last 0
   unfolding gathered over

@@ -13,8 +13,7 @@ use Rattle.numbers.proofs.GroupLaws.{sums}
 use Rattle.numbers.proofs.WordsLaws.{words-set, words-same}
 use Rattle.numbers.proofs.AlongLaws.{length-along, along-at, along-is, over-more}
 use Rattle.halving.specs.Halving.{parity, less, evened, halves}
-use Rattle.halving.specs.AtOnce.{gathered, settled}
-use Rattle.halving.proofs.EvenLaws.{evened-is}
+use Rattle.halving.proofs.EvenLaws.{gathered, settled, evened-is}
 
 -- the parities of the first k words, added modulo M
 unfoldable pub total : ℕ → List ℕ → ℕ → ℕ
