@@ -56,6 +56,10 @@ number-range high k M h w = record { tested = record { in-range = inside-out 1 h
 pub width-range : (k : ℕ) → Range (inside 1 31 k) ((1 ≤ k) × (k ≤ 31)) (2 ^ k)
 width-range k = number-range 31 k (2 ^ k) (pow-pos k) (λ h. pow-mono {i = k} {j = 32} (omega arith))
 
+-- a set
+pub set-tested : (set : ℕ) → Tested (known set) (Known set)
+set-tested set = record { in-range = known-so set; range-in = known-yes }
+
 -- a set and a kind
 pub kind-tested : (set kind : ℕ) → Tested (kindRange set kind) (Known set × ((1 ≤ kind) × (kind ≤ 2)))
 unfolding kindRange

@@ -8,7 +8,7 @@ use Rattle.numbers.specs.Modulo.{q}
 use Rattle.numbers.specs.Bits.{alpha}
 use Rattle.numbers.specs.Lists.{sum}
 use Rattle.params.specs.Sets.{Known, paramsOf}
-use Rattle.params.proofs.SetLaws.{set-laws, known-yes, known-so}
+use Rattle.params.proofs.SetLaws.{set-laws}
 use Rattle.params.proofs.RoomLaws.{half-least}
 use Rattle.decompose.specs.Remainder.{Remainder}
 use Rattle.decompose.proofs.PlainLaws.{remainder-is}
@@ -26,6 +26,7 @@ use Rattle.demands.specs.Claim.{plan}
 use Rattle.demands.specs.Demands.{Demands}
 use Rattle.demands.specs.Unique.{Unique}
 use Rattle.demands.specs.Decompose.{decomposeClaim}
+use Rattle.demands.proofs.Answers.{set-tested}
 use Rattle.demands.proofs.Steps.{Steps}
 use Rattle.demands.proofs.Demands.{demands}
 use Rattle.demands.proofs.Unique.{unique-by}
@@ -36,7 +37,7 @@ decompose-steps set =
     record {
       range =
           record {
-            tested = record { in-range = known-so set; range-in = known-yes };
+            tested = set-tested set;
             positive = λ r. omega arith;
             word = λ r. omega arith;
           };

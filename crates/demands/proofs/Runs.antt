@@ -56,3 +56,16 @@ module _ (c : Call) (tape : List ℕ) where
       go (succeeds x) = x
       go (stops f) = absurd (let z : 5 ≡ 0 = sym (ap (λ (t : Told). t .number) f) ∙ e in omega arith)
       go (refuses k f n h) = absurd (n (sym (ap (λ (t : Told). t .number) f) ∙ e))
+
+-- a number that is neither 0 nor 5, and that no check has, is not answered
+pub never : (c : Call) (tape : List ℕ) (k : ℕ) → ¬ (k ≡ 0) → ¬ (k ≡ 5) → ¬ (checkNumber c ≡ k) → ¬ (told c tape .number ≡ k)
+unfolding refusal
+never c tape k zero five none e = go (ending c tape)
+  where
+    number : {t : Told} → told c tape ≡ t → t .number ≡ k
+    number f = sym (ap (λ (t : Told). t .number) f) ∙ e
+
+    go : Ending c tape → ⊥
+    go (succeeds x) = zero (sym (number (x .told-so)))
+    go (stops f) = five (sym (number f))
+    go (refuses j f m h) = none (sym h ∙ number f)

@@ -6,9 +6,9 @@ use native.Mathlib.Omega.{arith}
 use lib.ListN.{length, length-append, length-replicate}
 use Rattle.numbers.specs.Bits.{alpha}
 use Rattle.numbers.specs.Lists.{over}
-use Rattle.params.specs.Sets.{Known, known, paramsOf}
+use Rattle.params.specs.Sets.{Known, paramsOf}
 use Rattle.params.proofs.RoomLaws.{alpha-most, mask-most}
-use Rattle.params.proofs.SetLaws.{set-laws, known-yes, known-so}
+use Rattle.params.proofs.SetLaws.{set-laws}
 use Rattle.gate.specs.Told.{standsFor}
 use Rattle.gate.specs.Sampler.{samples}
 use Rattle.sample.specs.Sampling.{maskPlan, coefficientPlan, polynomialPlan}
@@ -21,14 +21,11 @@ use Rattle.demands.specs.Convert.{toModQClaim}
 use Rattle.demands.specs.Demands.{SamplerDemands}
 use Rattle.demands.specs.Unique.{Unique}
 use Rattle.demands.specs.Sample.{samplerClaim, polynomialClaim}
-use Rattle.demands.proofs.Answers.{Tested}
+use Rattle.demands.proofs.Answers.{set-tested}
 use Rattle.demands.proofs.SamplerSteps.{SamplerSteps}
 use Rattle.demands.proofs.Demands.{sampler-demands}
 use Rattle.demands.proofs.Convert.{to-mod-q-call-draws}
 use Rattle.demands.proofs.Unique.{unique-told}
-
-set-range : (set : ℕ) → Tested (known set) (Known set)
-set-range set = record { in-range = known-so set; range-in = known-yes }
 
 -- n up to 8 leaves room
 room : {set : ℕ} → Known set → (n : ℕ) → n ≤ 8 → paramsOf set .mu + alpha n ≤ 32
@@ -38,7 +35,7 @@ sampler-steps : (set : ℕ) → SamplerSteps (samplerClaim set)
 unfolding sampler
 sampler-steps set =
     record {
-      range = set-range set;
+      range = set-tested set;
       count = refl;
       short = λ out. refl;
       planned = λ k n least most out e. coefficient-gives (set-laws k) n (omega arith) (room k n most) .plan;
@@ -49,7 +46,7 @@ polynomial-steps : (set : ℕ) → SamplerSteps (polynomialClaim set)
 unfolding polynomialSampler
 polynomial-steps set =
     record {
-      range = set-range set;
+      range = set-tested set;
       count = refl;
       short = λ out. refl;
       planned = λ k n least most out e. polynomial-gives (set-laws k) n (omega arith) (room k n most) out e .plan;

@@ -11,12 +11,12 @@ use Rattle.draws.proofs.Outcomes.{Plan}
 use Rattle.draws.proofs.PlanLaws.{plan-map}
 use Rattle.draws.proofs.RunLaws.{bind-parts}
 use Rattle.gate.specs.Checks.{firstFailing}
-use Rattle.gate.specs.Told.{Told, refusal, Outcome, silent, checkNumber, told}
+use Rattle.gate.specs.Told.{Outcome, silent, checkNumber}
 use Rattle.gate.specs.Gadget.{silentSteps}
 use Rattle.gate.specs.Sampler.{Sampler, samplerCall, samples}
 use Rattle.gate.proofs.CheckLaws.{all-checked, number-most}
 use Rattle.demands.specs.SamplerClaim.{SamplerClaim, onStated}
-use Rattle.demands.proofs.Runs.{Ending, succeeds, stops, refuses, ending}
+use Rattle.demands.proofs.Runs.{never}
 use Rattle.demands.proofs.Answers.{Answers, Tested, first-count, first-length, first-parameter, first-later}
 
 pub record SamplerSteps (c : SamplerClaim) : Type 0 where
@@ -61,13 +61,7 @@ on-stated {c} s n out =
 
 -- the first three checks have no other number
 pub no-share : (g : Sampler) (n : ℕ) (tape out : List ℕ) → ¬ (samples g n tape out .number ≡ 4)
-unfolding samples checkNumber refusal firstFailing
-no-share g n tape out e = go (ending (samplerCall g n out) tape)
-  where
-    number : {t : Told} → told (samplerCall g n out) tape ≡ t → t .number ≡ 4
-    number f = sym (ap (λ (t : Told). t .number) f) ∙ e
-
-    go : Ending (samplerCall g n out) tape → ⊥
-    go (succeeds x) = let z = number (x .told-so) in omega arith
-    go (stops f) = let z = number f in omega arith
-    go (refuses k f m h) = let z = number f in omega (arith, h, number-most n (length out) (g .coefficients * n) (g .inRange) [] 3 (omega arith) (omega arith))
+unfolding samples checkNumber firstFailing
+no-share g n tape out =
+    never (samplerCall g n out) tape 4 (λ e. omega arith) (λ e. omega arith)
+    (λ e. omega (arith, e, number-most n (length out) (g .coefficients * n) (g .inRange) [] 3 (omega arith) (omega arith)))

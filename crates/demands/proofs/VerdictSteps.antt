@@ -18,7 +18,7 @@ use Rattle.draws.proofs.PlanLaws.{planned-parts, reads-run, reads-fit, always-r
 use Rattle.shares.specs.Sharing.{arithmetic}
 use Rattle.shares.proofs.SharingLaws.{Shares}
 use Rattle.gate.specs.Checks.{inside, allBelow, firstFailing, checksOf, checks, leaveOut}
-use Rattle.gate.specs.Told.{Told, Outcome, refusal, checkNumber, told}
+use Rattle.gate.specs.Told.{Outcome, checkNumber}
 use Rattle.gate.specs.Judge.{judgeChecks, judgeCall, judges}
 use Rattle.gate.proofs.CheckLaws.{number-most, below-most, below-words, words-below, below-fails, below-passes, all-passed}
 use Rattle.gate.proofs.GadgetLaws.{judge-checks}
@@ -30,7 +30,7 @@ use Rattle.judges.specs.Verdict.{verdictGadget}
 use Rattle.demands.specs.Call.{Valid}
 use Rattle.demands.specs.Verdict.{meant, Within, Judgement, verdictClaim}
 use Rattle.demands.proofs.Answers.{Answers, kind-tested, laws-of, not-so, first-count, first-parameter, first-later}
-use Rattle.demands.proofs.Runs.{Ending, succeeds, stops, refuses, ending}
+use Rattle.demands.proofs.Runs.{never}
 
 -- shares below q are shares of their value
 pub of-value : {n : ℕ} {shares : List ℕ} → Words n q shares → Shares (arithmetic q) n (sum shares % q) shares
@@ -99,19 +99,13 @@ module _ (set kind : ℕ) (shares : List ℕ) where
 
   -- the checks have no number 2
   pub no-room : (tape : List ℕ) → ¬ (judges (verdictGadget set kind) shares tape .number ≡ 2)
-  unfolding judges checkNumber refusal firstFailing checks checksOf leaveOut judgeChecks verdictGadget
-  no-room tape e = go (ending (judgeCall (verdictGadget set kind) shares) tape)
+  unfolding judges checkNumber firstFailing checks checksOf leaveOut judgeChecks verdictGadget
+  no-room tape =
+      never (judgeCall (verdictGadget set kind) shares) tape 2 (λ e. omega arith) (λ e. omega arith)
+      (not-two (inside 2 8 (length shares)) (kindRange set kind) (allBelow q shares))
     where
-      number : {t : Told} → told (judgeCall (verdictGadget set kind) shares) tape ≡ t → t .number ≡ 2
-      number f = sym (ap (λ (t : Told). t .number) f) ∙ e
-
       not-two : (a b c : Bool) → ¬ (_≡_ {A = ℕ} (pick a (pick b (pick c 0 4) 3) 1) 2)
       not-two true true true f = omega arith
       not-two true true false f = omega arith
       not-two true false c f = omega arith
       not-two false b c f = omega arith
-
-      go : Ending (judgeCall (verdictGadget set kind) shares) tape → ⊥
-      go (succeeds x) = let z = number (x .told-so) in omega arith
-      go (stops f) = let z = number f in omega arith
-      go (refuses m f h i) = not-two (inside 2 8 (length shares)) (kindRange set kind) (allBelow q shares) (sym i ∙ number f)
