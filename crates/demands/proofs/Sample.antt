@@ -11,9 +11,12 @@ use Rattle.params.proofs.RoomLaws.{alpha-most, mask-most}
 use Rattle.params.proofs.SetLaws.{set-laws}
 use Rattle.gate.specs.Told.{standsFor}
 use Rattle.gate.specs.Sampler.{samples}
-use Rattle.sample.specs.Sampling.{maskPlan, coefficientPlan, polynomialPlan}
-use Rattle.sample.proofs.ValueLaws.{coefficient-gives, polynomial-gives}
-use Rattle.sample.proofs.MaskLaws.{coefficient-masks, polynomial-masks}
+use Rattle.sample.specs.Sampling.{maskPlan, coefficientPlan}
+use Rattle.polynomial.specs.Polynomial.{polynomialPlan}
+use Rattle.sample.proofs.ValueLaws.{coefficient-gives}
+use Rattle.sample.proofs.MaskLaws.{coefficient-masks}
+use Rattle.polynomial.proofs.ValueLaws.{polynomial-gives}
+use Rattle.polynomial.proofs.MaskLaws.{polynomial-masks}
 use Rattle.samplers.specs.Samplers.{sampler, polynomialSampler}
 use Rattle.conversions.specs.Convert.{toModQGadget}
 use Rattle.demands.specs.Claim.{plan}

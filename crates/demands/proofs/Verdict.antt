@@ -15,8 +15,9 @@ use Rattle.gate.specs.Told.{Told}
 use Rattle.gate.specs.Judge.{judges}
 use Rattle.widening.specs.Widening.{widenPlan}
 use Rattle.product.specs.Product.{productPlan}
-use Rattle.verdict.specs.Verdict.{sidesPlan, frontPlan, scalesPlan, verdictPlan}
-use Rattle.verdict.proofs.ZeroLaws.{scales-length}
+use Rattle.zero.specs.ZeroTest.{scalesPlan}
+use Rattle.verdict.specs.Verdict.{sidesPlan, frontPlan, verdictPlan}
+use Rattle.zero.proofs.ZeroLaws.{scales-length}
 use Rattle.judges.specs.declared.Judged.{Judged}
 use Rattle.judges.specs.Verdict.{verdictGadget}
 use Rattle.judges.specs.Answers.{judgedStandsFor}

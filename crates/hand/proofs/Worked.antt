@@ -20,7 +20,8 @@ use Rattle.gate.specs.Checks.{inside, allBelow, firstFailing, checksOf, checks}
 use Rattle.gate.specs.Told.{refusal, ranTold, checkNumber, told}
 use Rattle.gate.specs.Gadget.{silentSteps, closed, tells}
 use Rattle.gate.specs.Sampler.{samples}
-use Rattle.sample.specs.Sampling.{lowered, coefficient, filled, row, polynomial}
+use Rattle.sample.specs.Sampling.{lowered, coefficient}
+use Rattle.polynomial.specs.Polynomial.{filled, row, polynomial}
 use Rattle.samplers.specs.Samplers.{sampler, polynomialSampler}
 use Rattle.widening.specs.Widening.{widen}
 use Rattle.decompose.specs.Decompose.{highShares, highPart, lowShares, decompose}

@@ -17,7 +17,8 @@ use Rattle.gate.specs.Told.{refusal, ranTold, checkNumber, told}
 use Rattle.gate.specs.Judge.{judgeChecks, judges}
 use Rattle.widening.specs.Widening.{widen, widenPlan}
 use Rattle.product.specs.Product.{begun, crossed, pair, row, product, productPlan}
-use Rattle.verdict.specs.Verdict.{side, sidesProduct, scaled, scaleTurn, zeroTest, tested, verdictOf, verdict, sidesPlan, frontPlan, scalePlan, scalesPlan, verdictPlan}
+use Rattle.zero.specs.ZeroTest.{scaled, scaleTurn, zeroTest, scalePlan, scalesPlan}
+use Rattle.verdict.specs.Verdict.{side, sidesProduct, tested, verdictOf, verdict, sidesPlan, frontPlan, verdictPlan}
 use Rattle.widens.specs.Widen.{kindRange}
 use Rattle.judges.specs.Verdict.{verdictGadget}
 use Rattle.hand.specs.WorkedVerdict.{WorkedVerdict}

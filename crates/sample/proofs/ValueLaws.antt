@@ -4,7 +4,6 @@ use mathlib.Core.List.{List, _++_}
 use Prim.Native.Nat.{ℕ, _+_, _-_, _*_, _%_, _^_, _≤_, _<_}
 use native.Mathlib.Nat.{mod-eq-of-lt}
 use native.Mathlib.Omega.{arith}
-use lib.ListN.{length}
 use Rattle.numbers.specs.Modulo.{q, subMod}
 use Rattle.numbers.specs.Bits.{alpha}
 use Rattle.numbers.specs.Lists.{Words, xorAll}
@@ -13,9 +12,8 @@ use Rattle.numbers.proofs.FoldLaws.{fold-below}
 use Rattle.params.specs.declared.Params.{Params}
 use Rattle.params.specs.Laws.{Laws}
 use Rattle.params.proofs.RoomLaws.{mask-small}
-use Rattle.draws.specs.Draws.{each}
 use Rattle.draws.proofs.Outcomes.{Gives}
-use Rattle.draws.proofs.PlanLaws.{gives-bind, gives-map, gives-rounds, gives-as, gives-all, fits-words}
+use Rattle.draws.proofs.PlanLaws.{gives-bind, gives-as, gives-all, fits-words}
 use Rattle.shares.specs.Sharing.{arithmetic}
 use Rattle.shares.specs.Refresh.{refresh, refreshPlan}
 use Rattle.shares.proofs.SharingLaws.{Shares}
@@ -23,8 +21,7 @@ use Rattle.shares.proofs.FirstLaws.{taken-first}
 use Rattle.shares.proofs.RefreshLaws.{refresh-keeps}
 use Rattle.switching.specs.ToModulus.{toModulusPlan}
 use Rattle.switching.proofs.ValueLaws.{to-modulus-keeps}
-use Rattle.sample.specs.Sampling.{lowered, maskPlan, masked, coefficient, coefficientPlan, filled, row, polynomial, polynomialPlan}
-use Rattle.sample.proofs.RowLaws.{row-within, filled-length}
+use Rattle.sample.specs.Sampling.{lowered, maskPlan, masked, coefficient, coefficientPlan}
 
 module _ {p : Params} (l : Laws p) (n : ℕ) (least : 0 < n) (room : p .mu + alpha n ≤ 32) where
   -- the exclusive or of the words drawn is below 2γ1
@@ -47,12 +44,3 @@ module _ {p : Params} (l : Laws p) (n : ℕ) (least : 0 < n) (room : p .mu + alp
   coefficient-gives =
       gives-bind (masked p) (toModulusPlan q (p .mu) n ++ refreshPlan (arithmetic q) n) (gives-all (maskPlan p n))
       (λ xs f. gives-as (λ ys a. a .words) (masked-gives xs (fits-words n (2 ^ p .mu) xs f)))
-
-  pub polynomial-gives : (out : List ℕ) → length out ≡ 256 * n → Gives (λ o. length o ≡ 256 * n) (polynomial p n out) (polynomialPlan p n)
-  unfolding polynomial polynomialPlan each row
-  polynomial-gives out e = gives-rounds (λ c o. length o ≡ 256 * n) (row p n) (coefficientPlan p n) 256 turn 0 256 out (omega arith) e
-    where
-      turn : (c : ℕ) (o : List ℕ) → c < 256 → length o ≡ 256 * n → Gives (λ r. length r ≡ 256 * n) (row p n c o) (coefficientPlan p n)
-      turn c o h f =
-          gives-map (λ r. length r ≡ 256 * n) (λ ys. filled (c * n) ys o) coefficient-gives
-          (λ ys w. filled-length (c * n) ys o (omega (arith, w .size, row-within c 256 n h)) ∙ f)

@@ -1,3 +1,2 @@
 pub mod Sampling
-pub mod Answers
-pub mod Masks
+pub mod Mask

@@ -1,11 +1,10 @@
--- Sampling, of one coefficient and of a polynomial (document 01, "Steps"). Shares are counted from 0 here, from 1 there.
-use mathlib.Core.List.{List, [], _++_}
-use Prim.Native.Nat.{ℕ, _+_, _-_, _*_, _^_}
-use lib.ListN.{length, take, drop, replicate}
+-- Sampling of one coefficient (document 01, "Steps"). Shares are counted from 0 here, from 1 there.
+use mathlib.Core.List.{List, _++_}
+use Prim.Native.Nat.{ℕ, _-_, _^_}
+use lib.ListN.{replicate}
 use Rattle.numbers.specs.Modulo.{q}
-use Rattle.numbers.specs.Lists.{over}
 use Rattle.params.specs.declared.Params.{Params}
-use Rattle.draws.specs.Draws.{Draws, done, bind, each}
+use Rattle.draws.specs.Draws.{Draws, bind}
 use Rattle.draws.specs.Plan.{drawAll}
 use Rattle.shares.specs.Sharing.{arithmetic, takeFromFirst}
 use Rattle.shares.specs.Refresh.{refresh, refreshPlan}
@@ -29,18 +28,3 @@ coefficient p n = bind (drawAll (maskPlan p n)) (masked p)
 
 unfoldable pub coefficientPlan : Params → ℕ → List ℕ
 coefficientPlan p n = maskPlan p n ++ (toModulusPlan q (p .mu) n ++ refreshPlan (arithmetic q) n)
-
--- the words ys fill a slice from a place on
-unfoldable pub filled : ℕ → List ℕ → List ℕ → List ℕ
-filled place ys out = take place out ++ (ys ++ drop (place + length ys) out)
-
--- coefficient c fills the n words from place c·n
-unfoldable pub row : Params → ℕ → ℕ → List ℕ → Draws (List ℕ)
-row p n c out = bind (coefficient p n) (λ ys. done (filled (c * n) ys out))
-
--- 256 coefficients in order, on one tape
-unfoldable pub polynomial : Params → ℕ → List ℕ → Draws (List ℕ)
-polynomial p n out = each (row p n) 0 256 out
-
-unfoldable pub polynomialPlan : Params → ℕ → List ℕ
-polynomialPlan p n = over (λ c ms. coefficientPlan p n ++ ms) 256 []

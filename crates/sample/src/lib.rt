@@ -1,13 +1,59 @@
-// Sampling of a mask in shares: one coefficient, and the 256 of a polynomial.
-mod one;
-mod rows;
-
-pub use one::coefficient;
-pub use rows::polynomial;
+// Sampling of a mask in shares: one coefficient.
+use params::Params;
+use shares::Shared;
+use shares::refresh;
+use shares::take_from_first;
+use switching::to_modulus;
 use tape::Cursor;
+use tape::Draw;
+use words::power;
+ghost use Prim.Native.Nat.{_^_, _≤_};
+ghost use lib.ListN.{replicate};
+ghost use Rattle.numbers.specs.Modulo.{q};
+ghost use Rattle.params.specs.Laws.{Laws};
+ghost use Rattle.draws.specs.Draws.{run};
+ghost use Rattle.draws.specs.Plan.{drawAll};
+ghost use Rattle.shares.specs.Arrays.{Gave};
+ghost use Rattle.sample.specs.Sampling.{coefficient};
 
-// What was lent is filled, and the place of the next word; or the tape has ended, and nothing is said of what was lent.
-pub enum Written {
-    Filled(Cursor),
-    Ended,
+// n words below 2^mu: the Boolean shares of a number that nobody holds.
+fn draw_shares(n: usize, mu: u32, cursor: Cursor, tape: &[u32]) -> Shared
+    requires { ⌜ (2 ≤ n) × (n ≤ 8) × (1 ≤ mu) × (mu ≤ 31) ⌝ }
+    ensures { λ r. ⌜ Gave n (2 ^ mu) r (run (drawAll (replicate n (2 ^ mu))) (now (tape .entry)) cursor) ⌝ }
+{
+    let m = power(mu);
+    let mut words = [0u32; Params::MOST];
+    let mut cur = cursor;
+    for i in 0..n {
+        let Draw::Got(r, next) = cur.draw(tape, m) else {
+            return Shared::ended();
+        };
+        words[i] = r;
+        cur = next;
+    }
+    Shared {
+        words,
+        cursor: cur,
+        ok: true,
+    }
+}
+
+pub fn coefficient(p: Params, n: usize, cursor: Cursor, tape: &[u32]) -> Shared
+    requires { ⌜ Laws p × (2 ≤ n) × (n ≤ 8) ⌝ }
+    ensures { λ r. ⌜ Gave n q r (run (coefficient p n) (now (tape .entry)) cursor) ⌝ }
+{
+    let drawn = draw_shares(n, p.mu, cursor, tape);
+    if !drawn.ok {
+        return Shared::ended();
+    }
+    let x = drawn.words;
+    let c = drawn.cursor;
+    let converted = to_modulus(x, n, p.mu, Params::Q, c, tape);
+    if !converted.ok {
+        return Shared::ended();
+    }
+    let y = converted.words;
+    let after = converted.cursor;
+    let lowered = take_from_first(y, p.gamma1 - 1, Params::Q);
+    refresh(lowered, n, Params::Q, after, tape)
 }

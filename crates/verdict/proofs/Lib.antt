@@ -1,5 +1,5 @@
 pub mod StepLaws
 pub mod PlainLaws
-pub mod ZeroLaws
+pub mod PartLaws
 pub mod ValueLaws
 pub mod ScalarLaws

@@ -19,10 +19,13 @@ use Rattle.draws.proofs.Outcomes.{Fits, merged, Marks}
 use Rattle.draws.proofs.PlanLaws.{fits-both, FitBoth}
 use Rattle.draws.proofs.MarksLaws.{marked-after, merged-after}
 use Rattle.shares.specs.Refresh.{refreshPlan}
-use Rattle.verdict.specs.Verdict.{frontPlan, scalePlan, scalesPlan, verdictPlan}
-use Rattle.verdict.specs.Plain.{leftOf, rightOf, scalarsOf, openedOf}
+use Rattle.zero.specs.ZeroTest.{scalePlan, scalesPlan}
+use Rattle.verdict.specs.Verdict.{frontPlan, verdictPlan}
+use Rattle.zero.specs.Scalars.{scalarsOf}
+use Rattle.verdict.specs.Plain.{leftOf, rightOf, openedOf}
 use Rattle.verdict.specs.LastScalar.{lastScalarMarks}
-use Rattle.verdict.proofs.ZeroLaws.{verdict-parts, drop-front, scales-last, Scales, scales-parts, before-length, scalars-last, scalars-not-zero}
+use Rattle.zero.proofs.ZeroLaws.{scales-last, Scales, scales-parts, before-length, scalars-last, scalars-not-zero}
+use Rattle.verdict.proofs.PartLaws.{verdict-parts, drop-front}
 
 module _ (k : Bounds) (n : ℕ) (few : 0 < n) where
   -- the draws before the last scalar's

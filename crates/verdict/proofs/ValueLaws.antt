@@ -36,11 +36,14 @@ use Rattle.widening.proofs.StepLaws.{wide-two}
 use Rattle.widening.proofs.ValueLaws.{widen-gives}
 use Rattle.product.specs.Product.{product}
 use Rattle.product.proofs.ValueLaws.{product-gives}
-use Rattle.verdict.specs.Verdict.{side, sidesProduct, zeroTest, tested, verdictOf, judged, verdict, sidesPlan, frontPlan, scalesPlan, verdictPlan}
-use Rattle.verdict.specs.Plain.{accepted, sideOf, leftOf, rightOf, scalarsOf, openedOf}
+use Rattle.zero.specs.ZeroTest.{zeroTest, scalesPlan}
+use Rattle.verdict.specs.Verdict.{side, sidesProduct, tested, verdictOf, judged, verdict, sidesPlan, frontPlan, verdictPlan}
+use Rattle.zero.specs.Scalars.{scalarsOf}
+use Rattle.verdict.specs.Plain.{accepted, sideOf, leftOf, rightOf, openedOf}
 use Rattle.verdict.proofs.StepLaws.{bound-wide}
 use Rattle.verdict.proofs.PlainLaws.{rejected-zero, accepted-not-zero}
-use Rattle.verdict.proofs.ZeroLaws.{verdict-parts, drop-front, zero-test-gives, zero-test-feed, scalars-not-zero}
+use Rattle.zero.proofs.ZeroLaws.{zero-test-gives, zero-test-feed, scalars-not-zero}
+use Rattle.verdict.proofs.PartLaws.{verdict-parts, drop-front}
 
 -- an outcome in which a number below q was opened, and the verdict that goes with it
 pub record Opens (o : Outcome) : Type 0 where

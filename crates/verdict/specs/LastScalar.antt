@@ -5,7 +5,8 @@ use Prim.Native.Nat.{ℕ, _-_}
 use Rattle.numbers.specs.Modulo.{q}
 use Rattle.params.specs.declared.Bounds.{Bounds}
 use Rattle.draws.specs.Anew.{marksAfter}
-use Rattle.verdict.specs.Verdict.{frontPlan, scalesPlan}
+use Rattle.zero.specs.ZeroTest.{scalesPlan}
+use Rattle.verdict.specs.Verdict.{frontPlan}
 
 -- of what comes before the zero test and of all its turns but the last no draw is marked, and of the last turn the first draw alone
 unfoldable pub lastScalarMarks : Bounds → ℕ → List Bool

@@ -1,16 +1,15 @@
--- The verdict on a signed number z, without shares: whether its size is below the bound, its sides, the scalars of the zero
--- test, and what is opened.
+-- The verdict on a signed number z, without shares: whether its size is below the bound, its sides, and what is opened.
 use mathlib.Core.Bool.{Bool}
 use mathlib.Core.List.{List}
-use Prim.Native.Nat.{ℕ, _+_, _*_, _/_, _%_, _^_}
-use lib.ListN.{length, getD, drop}
+use Prim.Native.Nat.{ℕ, _*_, _/_, _%_, _^_}
+use lib.ListN.{length, drop}
 use lib.Dec.{ltb}
 use lib.IntN.{ℤ, pos, natAbs, negℤ, _-ℤ_}
 use Rattle.numbers.specs.Modulo.{q}
-use Rattle.numbers.specs.Lists.{over}
 use Rattle.numbers.specs.Centred.{residue}
 use Rattle.params.specs.declared.Bounds.{Bounds}
 use Rattle.widening.specs.Widening.{wide}
+use Rattle.zero.specs.Scalars.{scalarsOf}
 use Rattle.verdict.specs.Verdict.{frontPlan}
 
 -- z's size is below a
@@ -26,14 +25,6 @@ leftOf k z = sideOf k z
 
 unfoldable pub rightOf : Bounds → ℤ → ℕ
 rightOf k z = sideOf k (negℤ z)
-
--- the scalar of turn i of a zero test with n shares, by the draws rs of all turns: a turn makes n draws, of which the first, plus 1, is its scalar
-unfoldable pub scalarOf : (n : ℕ) → (rs : List ℕ) → ℕ → ℕ
-scalarOf n rs i = getD rs (i * n) 0 + 1
-
--- the scalars of so many turns, multiplied
-unfoldable pub scalarsOf : (n : ℕ) → (rs : List ℕ) → (turns : ℕ) → ℕ
-scalarsOf n rs turns = over (λ i s. s * scalarOf n rs i) turns 1
 
 -- what is opened of z, by all draws rs of a call with n shares, of which those of the zero test come last: the sides and the scalars, multiplied mod q
 unfoldable pub openedOf : Bounds → (n : ℕ) → ℤ → (rs : List ℕ) → ℕ

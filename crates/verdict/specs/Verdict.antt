@@ -1,19 +1,18 @@
 -- The verdict on shares of one coefficient (document 01, "Steps"), by the bounds of its kind.
 use mathlib.Core.List.{List, [], _∷_, _++_}
-use Prim.Native.Nat.{ℕ, _+_, _-_, _*_, _%_}
-use lib.ListN.{length}
+use Prim.Native.Nat.{ℕ}
 use lib.Dec.{eqb}
 use Rattle.numbers.specs.Tests.{pick}
 use Rattle.numbers.specs.Modulo.{q}
-use Rattle.numbers.specs.Lists.{along, over}
 use Rattle.params.specs.declared.Bounds.{Bounds}
-use Rattle.draws.specs.Draws.{Draws, done, draw, bind, each}
+use Rattle.draws.specs.Draws.{Draws, done, bind}
 use Rattle.shares.specs.Sharing.{arithmetic, value, takeFromFirst, negated}
 use Rattle.shares.specs.Refresh.{refresh, refreshPlan}
 use Rattle.shift.specs.Shift.{shift, shiftPlan}
 use Rattle.gate.specs.Told.{Outcome}
 use Rattle.widening.specs.Widening.{wide, widened, widen, widenPlan}
 use Rattle.product.specs.Product.{product, productPlan}
+use Rattle.zero.specs.ZeroTest.{zeroTest, scalesPlan}
 
 -- one side of widened shares: a is taken from share 1, and they are shifted by ρ, from 2^ρ·q to q
 unfoldable pub side : Bounds → List ℕ → Draws (List ℕ)
@@ -26,18 +25,6 @@ sidesProduct k ws =
     bind (side k (negated (wide k) ws)) (λ right.
     bind (refresh (arithmetic q) left) (λ fresh.
     product q fresh right)))
-
--- every share times c
-unfoldable pub scaled : (M c : ℕ) → List ℕ → List ℕ
-scaled M c xs = along (λ i x. x * c % M) xs
-
--- a draw below M − 1, plus 1, times every share; and a refresh
-unfoldable pub scaleTurn : ℕ → ℕ → List ℕ → Draws (List ℕ)
-scaleTurn M i xs = draw (M - 1) (λ r. refresh (arithmetic M) (scaled M (r + 1) xs))
-
--- the same n times
-unfoldable pub zeroTest : ℕ → List ℕ → Draws (List ℕ)
-zeroTest M xs = each (scaleTurn M) 0 (length xs) xs
 
 -- the shares that are opened
 unfoldable pub tested : Bounds → List ℕ → Draws (List ℕ)
@@ -55,18 +42,12 @@ judged opened = record { opened = verdictOf opened ∷ opened ∷ []; shares = [
 unfoldable pub verdict : Bounds → List ℕ → Draws Outcome
 verdict k xs = bind (tested k xs) (λ ts. done (judged (value (arithmetic q) ts)))
 
--- the plans: of the sides and their product, of all that comes before the zero test, of one turn of it, of so many turns, and of the whole
+-- the plans: of the sides and their product, of all that comes before the zero test, and of the whole
 unfoldable pub sidesPlan : Bounds → ℕ → List ℕ
 sidesPlan k n = shiftPlan q (k .rho) n ++ (shiftPlan q (k .rho) n ++ (refreshPlan (arithmetic q) n ++ productPlan q n))
 
 unfoldable pub frontPlan : Bounds → ℕ → List ℕ
 frontPlan k n = widenPlan k n ++ sidesPlan k n
-
-unfoldable pub scalePlan : (M n : ℕ) → List ℕ
-scalePlan M n = (M - 1) ∷ refreshPlan (arithmetic M) n
-
-unfoldable pub scalesPlan : (M n turns : ℕ) → List ℕ
-scalesPlan M n turns = over (λ i ms. scalePlan M n ++ ms) turns []
 
 unfoldable pub verdictPlan : Bounds → ℕ → List ℕ
 verdictPlan k n = frontPlan k n ++ scalesPlan q n n

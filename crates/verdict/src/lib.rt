@@ -1,7 +1,6 @@
 // The verdict: whether the number in the shares is small enough. Both sides of it are multiplied in shares, and only the product, multiplied by random
 // scalars, is opened.
 mod sides;
-mod zero;
 
 use params::Bounds;
 use params::Params;

@@ -4,8 +4,8 @@ use Prim.Native.Nat.{ℕ}
 use lib.ListN.{replicate}
 use Rattle.gate.specs.Told.{refusal}
 use Rattle.gate.proofs.GadgetLaws.{told-ended, told-ran}
-use Rattle.sample.specs.declared.Written.{Written}
-use Rattle.sample.specs.Answers.{writtenStandsFor}
+use Rattle.polynomial.specs.declared.Written.{Written}
+use Rattle.polynomial.specs.Answers.{writtenStandsFor}
 use Rattle.samplers.proofs.fill.Statement.{statement}
 use Rattle.samplers.proofs.fill.Tie as tie
 

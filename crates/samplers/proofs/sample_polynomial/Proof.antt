@@ -12,7 +12,7 @@ use Rattle.gate.specs.Checks.{firstFailing, checksOf}
 use Rattle.gate.proofs.CheckLaws.{AllPassed, all-checked, range-checked}
 use Rattle.gate.proofs.AdmitLaws.{not-admitted, Good, good}
 use Rattle.gate.proofs.GadgetLaws.{sampler-refused, sampler-ran}
-use Rattle.sample.specs.Sampling.{polynomial}
+use Rattle.polynomial.specs.Polynomial.{polynomial}
 use Rattle.samplers.specs.Samplers.{polynomialSampler}
 use Rattle.samplers.proofs.sample_polynomial.Statement.{statement}
 use Rattle.samplers.proofs.sample_polynomial.Tie as tie

@@ -1,0 +1,3 @@
+pub mod Polynomial
+pub mod Answers
+pub mod Masks

@@ -1,0 +1,2 @@
+pub mod ZeroTest
+pub mod Scalars
