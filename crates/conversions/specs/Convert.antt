@@ -4,7 +4,7 @@ use Rattle.numbers.specs.Modulo.{q}
 use Rattle.shares.specs.Sharing.{arithmetic, boolean}
 use Rattle.convert.specs.ToArithmetic.{toArithmetic}
 use Rattle.switching.specs.ToModulus.{toModulus}
-use Rattle.gate.specs.Checks.{inside}
+use Rattle.checks.specs.Checks.{inside}
 use Rattle.gate.specs.Gadget.{Gadget, silentGadget}
 
 -- width k to modulo 2^k, k from 1 to 31

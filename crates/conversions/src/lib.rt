@@ -1,11 +1,11 @@
 // Boolean to arithmetic: mod 2^k, and mod q.
+use checks::first_failing;
+use checks::inside;
+use checks::width_bound;
 use gate::Answer;
 use gate::copy_in;
 use gate::finish;
-use gate::first_failing;
-use gate::inside;
 use gate::refused;
-use gate::width_bound;
 use params::Params;
 use shares::close;
 use switching::to_modulus;

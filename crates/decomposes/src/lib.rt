@@ -1,12 +1,12 @@
 // The public Decompose, by a parameter set.
+use checks::Admitted;
+use checks::admit;
+use checks::first_failing;
 use decompose::High;
 use decompose::high_part;
 use decompose::low_shares;
-use gate::Admitted;
-use gate::admit;
 use gate::copy_in;
 use gate::finish;
-use gate::first_failing;
 use params::Params;
 use shares::refresh;
 use tape::Cursor;
@@ -20,7 +20,7 @@ ghost use Rattle.tape.specs.Tape.{start};
 ghost use Rattle.draws.specs.Draws.{run};
 ghost use Rattle.shares.specs.Sharing.{arithmetic};
 ghost use Rattle.shares.specs.Refresh.{refresh};
-ghost use Rattle.gate.specs.Checks.{Checked};
+ghost use Rattle.checks.specs.Checks.{Checked};
 ghost use Rattle.gate.specs.Told.{refusal, ranTold};
 ghost use Rattle.gate.specs.Gadget.{closed, tells};
 ghost use Rattle.decompose.specs.Decompose.{decompose};

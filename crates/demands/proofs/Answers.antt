@@ -13,9 +13,9 @@ use Rattle.tape.specs.declared.Cursor.{Cursor}
 use Rattle.tape.specs.Tape.{ran, start}
 use Rattle.draws.specs.Draws.{run}
 use Rattle.draws.proofs.Outcomes.{Plan}
-use Rattle.gate.specs.Checks.{inside, firstFailing, checksOf}
+use Rattle.checks.specs.Checks.{inside, firstFailing, checksOf}
 use Rattle.gate.specs.Told.{Outcome, checkNumber}
-use Rattle.gate.proofs.CheckLaws.{both-left, both-right, inside-yes, inside-out, fails-1, fails-2, fails-3, fails-later}
+use Rattle.checks.proofs.CheckLaws.{both-left, both-right, inside-yes, inside-out, fails-1, fails-2, fails-3, fails-later}
 use Rattle.widens.specs.Widen.{kindRange}
 use Rattle.demands.specs.Call.{CallClaim, Counted, Valid}
 

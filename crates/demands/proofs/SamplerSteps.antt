@@ -10,11 +10,11 @@ use Rattle.draws.specs.Draws.{done, run}
 use Rattle.draws.proofs.Outcomes.{Plan}
 use Rattle.draws.proofs.PlanLaws.{plan-map}
 use Rattle.draws.proofs.RunLaws.{bind-parts}
-use Rattle.gate.specs.Checks.{firstFailing}
+use Rattle.checks.specs.Checks.{firstFailing}
 use Rattle.gate.specs.Told.{Outcome, silent, checkNumber}
 use Rattle.gate.specs.Gadget.{silentSteps}
 use Rattle.gate.specs.Sampler.{Sampler, samplerCall, samples}
-use Rattle.gate.proofs.CheckLaws.{all-checked, number-most}
+use Rattle.checks.proofs.CheckLaws.{all-checked, number-most}
 use Rattle.demands.specs.SamplerClaim.{SamplerClaim, onStated}
 use Rattle.demands.proofs.Runs.{never}
 use Rattle.demands.proofs.Answers.{Answers, Tested, first-count, first-length, first-parameter, first-later}

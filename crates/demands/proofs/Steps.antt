@@ -12,10 +12,10 @@ use Rattle.draws.proofs.PlanLaws.{gives-bind, gives-map, always-run}
 use Rattle.shares.specs.Sharing.{Sharing, bound, value}
 use Rattle.shares.specs.Refresh.{refreshPlan}
 use Rattle.shares.proofs.RefreshLaws.{refresh-keeps}
-use Rattle.gate.specs.Checks.{allBelow, checks}
+use Rattle.checks.specs.Checks.{allBelow, checks}
 use Rattle.gate.specs.Told.{checkNumber}
 use Rattle.gate.specs.Gadget.{closed}
-use Rattle.gate.proofs.CheckLaws.{number-most, below-most, below-words, words-below, below-fails, below-passes, all-passed}
+use Rattle.checks.proofs.CheckLaws.{number-most, below-most, below-words, words-below, below-fails, below-passes, all-passed}
 use Rattle.demands.specs.Call.{Valid}
 use Rattle.demands.specs.Claim.{Claim, Claimed, plan, onShares}
 use Rattle.demands.proofs.Answers.{Answers, Range, not-so, first-count, first-length, first-parameter, first-later}

@@ -17,10 +17,10 @@ use Rattle.draws.proofs.Outcomes.{Gives}
 use Rattle.draws.proofs.PlanLaws.{planned-parts, reads-run, reads-fit, always-run}
 use Rattle.shares.specs.Sharing.{arithmetic}
 use Rattle.shares.proofs.SharingLaws.{Shares}
-use Rattle.gate.specs.Checks.{inside, allBelow, firstFailing, checksOf, checks, leaveOut}
+use Rattle.checks.specs.Checks.{inside, allBelow, firstFailing, checksOf, checks, leaveOut}
 use Rattle.gate.specs.Told.{Outcome, checkNumber}
 use Rattle.gate.specs.Judge.{judgeChecks, judgeCall, judges}
-use Rattle.gate.proofs.CheckLaws.{number-most, below-most, below-words, words-below, below-fails, below-passes, all-passed}
+use Rattle.checks.proofs.CheckLaws.{number-most, below-most, below-words, words-below, below-fails, below-passes, all-passed}
 use Rattle.gate.proofs.GadgetLaws.{judge-checks}
 use Rattle.verdict.specs.Verdict.{verdictOf, verdict, verdictPlan}
 use Rattle.verdict.specs.Plain.{openedOf}

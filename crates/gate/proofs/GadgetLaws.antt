@@ -14,7 +14,7 @@ use Rattle.shares.specs.Sharing.{Sharing, bound}
 use Rattle.shares.specs.Refresh.{refresh}
 use Rattle.shares.specs.declared.Shared.{Shared}
 use Rattle.shares.specs.Arrays.{Held, Copied, shared, Gave}
-use Rattle.gate.specs.Checks.{firstFailing, checksOf, Checked, checks, leaveOut}
+use Rattle.checks.specs.Checks.{firstFailing, checksOf, Checked, checks, leaveOut}
 use Rattle.gate.specs.declared.Answer.{Answer}
 use Rattle.gate.specs.Told.{Told, refusal, Outcome, silent, openedRan, silentRan, ranTold, Call, checkNumber, told, standsFor}
 use Rattle.gate.specs.Gadget.{Gadget, silentSteps, silentGadget, closed, call, tells}

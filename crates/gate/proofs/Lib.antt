@@ -1,4 +1,2 @@
-pub mod CheckLaws
 pub mod GadgetLaws
-pub mod AdmitLaws
 pub mod CopyLaws

@@ -6,7 +6,7 @@ use lib.ListN.{length}
 use Rattle.draws.specs.Draws.{Draws, done, bind}
 use Rattle.shares.specs.Sharing.{Sharing, bound}
 use Rattle.shares.specs.Refresh.{refresh}
-use Rattle.gate.specs.Checks.{checks}
+use Rattle.checks.specs.Checks.{checks}
 use Rattle.gate.specs.Told.{Told, Outcome, silent, Call, told}
 
 -- a gadget, its parameters given

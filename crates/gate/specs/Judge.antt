@@ -5,7 +5,7 @@ use Prim.Native.Nat.{ℕ}
 use lib.ListN.{length}
 use Rattle.draws.specs.Draws.{Draws}
 use Rattle.shares.specs.Sharing.{Sharing, bound}
-use Rattle.gate.specs.Checks.{checks, leaveOut}
+use Rattle.checks.specs.Checks.{checks, leaveOut}
 use Rattle.gate.specs.Told.{Told, Outcome, Call, told}
 
 -- such a gadget, its parameters given

@@ -4,7 +4,7 @@ use mathlib.Core.List.{List, []}
 use Prim.Native.Nat.{ℕ, _*_}
 use lib.ListN.{length}
 use Rattle.draws.specs.Draws.{Draws}
-use Rattle.gate.specs.Checks.{checksOf}
+use Rattle.checks.specs.Checks.{checksOf}
 use Rattle.gate.specs.Told.{Told, Call, told}
 use Rattle.gate.specs.Gadget.{silentSteps}
 

@@ -7,7 +7,7 @@ use lib.Dec.{eqb}
 use Rattle.numbers.specs.Tests.{pick}
 use Rattle.tape.specs.Tape.{Ran, ended, ran, start}
 use Rattle.draws.specs.Draws.{Draws, run}
-use Rattle.gate.specs.Checks.{firstFailing}
+use Rattle.checks.specs.Checks.{firstFailing}
 use Rattle.gate.specs.declared.Answer.{Answer}
 
 -- the number; the other fields, which a gadget fills with the numbers that it opens, and the verdict with its verdict too; the words used; and the output

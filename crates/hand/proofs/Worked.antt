@@ -16,7 +16,7 @@ use Rattle.shift.specs.ToBoolean.{withBit, bitsFrom, toBoolean}
 use Rattle.convert.specs.ToArithmetic.{psi, psis, zOf, added, rule, toArithmetic}
 use Rattle.switching.specs.Switching.{floors, raised, raisedShift, carries, without}
 use Rattle.switching.specs.ToModulus.{toModulus}
-use Rattle.gate.specs.Checks.{inside, allBelow, firstFailing, checksOf, checks}
+use Rattle.checks.specs.Checks.{inside, allBelow, firstFailing, checksOf, checks}
 use Rattle.gate.specs.Told.{refusal, ranTold, checkNumber, told}
 use Rattle.gate.specs.Gadget.{silentSteps, closed, tells}
 use Rattle.gate.specs.Sampler.{samples}

@@ -1,8 +1,8 @@
 // The public verdict on the shares of one coefficient, by a parameter set and a kind: what is opened says, of a number within the reach, whether it is small enough.
-use gate::Admitted;
-use gate::admit;
+use checks::Admitted;
+use checks::admit;
+use checks::first_failing;
 use gate::copy_in;
-use gate::first_failing;
 use params::Bounds;
 use params::Params;
 use shares::opened;
@@ -16,7 +16,7 @@ ghost use Rattle.numbers.specs.Modulo.{q};
 ghost use Rattle.params.specs.Laws.{KindLaws};
 ghost use Rattle.tape.specs.Tape.{start};
 ghost use Rattle.draws.specs.Draws.{run};
-ghost use Rattle.gate.specs.Checks.{Checked};
+ghost use Rattle.checks.specs.Checks.{Checked};
 ghost use Rattle.gate.specs.Told.{refusal, ranTold};
 ghost use Rattle.gate.specs.Judge.{judges};
 ghost use Rattle.verdict.specs.Verdict.{verdictOf, verdict};

@@ -2,7 +2,7 @@
 use Prim.Native.Nat.{ℕ}
 use Rattle.draws.specs.Draws.{done}
 use Rattle.shares.specs.Sharing.{arithmetic, boolean}
-use Rattle.gate.specs.Checks.{inside}
+use Rattle.checks.specs.Checks.{inside}
 use Rattle.gate.specs.Gadget.{Gadget, silentGadget}
 
 -- modulus from 2 to 4294967295

@@ -1,11 +1,11 @@
 // Both refreshes: the closing refresh alone.
+use checks::first_failing;
+use checks::inside;
+use checks::width_bound;
 use gate::Answer;
 use gate::copy_in;
 use gate::finish;
-use gate::first_failing;
-use gate::inside;
 use gate::refused;
-use gate::width_bound;
 use tape::Cursor;
 ghost use mathlib.Core.Path.{_≡_};
 ghost use Rattle.gate.specs.Told.{standsFor};

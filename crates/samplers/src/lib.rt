@@ -1,10 +1,10 @@
 // The public samplers of a mask in shares. The share count n is stated, since there are no shares to count.
-use gate::Admitted;
+use checks::Admitted;
+use checks::admit;
+use checks::first_of_three;
 use gate::Answer;
-use gate::admit;
 use gate::clear;
 use gate::finish;
-use gate::first_of_three;
 use gate::refused;
 use params::Params;
 use polynomial::Written;

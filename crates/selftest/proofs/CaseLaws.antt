@@ -22,7 +22,7 @@ use Rattle.shift.specs.ToBoolean.{withBit, bitsFrom, toBoolean}
 use Rattle.convert.specs.ToArithmetic.{psi, psis, zOf, added, rule, toArithmetic}
 use Rattle.switching.specs.Switching.{floors, raised, raisedShift, carries, without}
 use Rattle.switching.specs.ToModulus.{toModulus}
-use Rattle.gate.specs.Checks.{inside, allBelow, firstFailing, checksOf, checks, leaveOut}
+use Rattle.checks.specs.Checks.{inside, allBelow, firstFailing, checksOf, checks, leaveOut}
 use Rattle.gate.specs.Told.{Told, refusal, ranTold, checkNumber, told}
 use Rattle.gate.specs.Gadget.{silentSteps, closed, tells}
 use Rattle.gate.specs.Sampler.{samples}

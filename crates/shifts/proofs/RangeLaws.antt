@@ -8,8 +8,8 @@ use lib.Dec.{leb, eqb}
 use lib.Pow.{pow-pos}
 use borrow.Author.Tests.{le-leb, leb-true, eq-eqb, eqb-true}
 use Rattle.numbers.specs.Tests.{both}
-use Rattle.gate.specs.Checks.{inside}
-use Rattle.gate.proofs.CheckLaws.{both-left, both-right, inside-yes, inside-out}
+use Rattle.checks.specs.Checks.{inside}
+use Rattle.checks.proofs.CheckLaws.{both-left, both-right, inside-yes, inside-out}
 use Rattle.shifts.specs.Shift.{shiftRange}
 
 abbrev pub ShiftRange : ℕ → ℕ → Type 0

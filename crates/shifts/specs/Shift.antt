@@ -6,7 +6,7 @@ use Rattle.numbers.specs.Tests.{both}
 use Rattle.shares.specs.Sharing.{arithmetic, boolean}
 use Rattle.shift.specs.Shift.{shift}
 use Rattle.shift.specs.ToBoolean.{toBoolean}
-use Rattle.gate.specs.Checks.{inside}
+use Rattle.checks.specs.Checks.{inside}
 use Rattle.gate.specs.Gadget.{Gadget, silentGadget}
 
 -- M at most 4294967295, t from 1 to 31, 2^t dividing M, and M/2^t at least 2

@@ -1,11 +1,11 @@
 // The shift by t, and arithmetic to Boolean.
+use checks::first_failing;
+use checks::inside;
+use checks::width_bound;
 use gate::Answer;
 use gate::copy_in;
 use gate::finish;
-use gate::first_failing;
-use gate::inside;
 use gate::refused;
-use gate::width_bound;
 use shares::close;
 use shares::close_boolean;
 use shift::shift_by;

@@ -5,7 +5,7 @@ use Rattle.numbers.specs.Tests.{both}
 use Rattle.numbers.specs.Modulo.{q}
 use Rattle.params.specs.Sets.{known, kindOf}
 use Rattle.shares.specs.Sharing.{arithmetic}
-use Rattle.gate.specs.Checks.{inside}
+use Rattle.checks.specs.Checks.{inside}
 use Rattle.gate.specs.Gadget.{Gadget, silentGadget}
 use Rattle.widening.specs.Widening.{widened, widen}
 

@@ -1,11 +1,11 @@
 // The public widening, by a parameter set and a kind.
-use gate::Admitted;
+use checks::Admitted;
+use checks::admit;
+use checks::first_failing;
+use checks::inside;
 use gate::Answer;
-use gate::admit;
 use gate::copy_in;
 use gate::finish;
-use gate::first_failing;
-use gate::inside;
 use gate::refused;
 use params::Bounds;
 use params::Params;
@@ -19,7 +19,7 @@ ghost use Rattle.params.specs.Laws.{KindLaws};
 ghost use Rattle.tape.specs.Tape.{start};
 ghost use Rattle.draws.specs.Draws.{bind, run};
 ghost use Rattle.shares.specs.Refresh.{refresh};
-ghost use Rattle.gate.specs.Checks.{Checked};
+ghost use Rattle.checks.specs.Checks.{Checked};
 ghost use Rattle.gate.specs.Told.{silentRan, ranTold, standsFor};
 ghost use Rattle.gate.specs.Gadget.{tells};
 ghost use Rattle.widening.specs.Widening.{widened, widen};

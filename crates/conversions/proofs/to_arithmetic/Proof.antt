@@ -10,8 +10,8 @@ use Rattle.draws.specs.Draws.{bind, run}
 use Rattle.shares.specs.Sharing.{arithmetic, boolean}
 use Rattle.shares.specs.Refresh.{refresh}
 use Rattle.convert.specs.ToArithmetic.{toArithmetic}
-use Rattle.gate.specs.Checks.{inside, firstFailing, checks}
-use Rattle.gate.proofs.CheckLaws.{Passed, all-passed, inside-out, checked-width}
+use Rattle.checks.specs.Checks.{inside, firstFailing, checks}
+use Rattle.checks.proofs.CheckLaws.{Passed, all-passed, inside-out, checked-width}
 use Rattle.gate.proofs.GadgetLaws.{silent-refused, silent-ran, closed-on-copy, held, held-given}
 use Rattle.conversions.specs.Convert.{toArithmeticGadget}
 use Rattle.conversions.proofs.to_arithmetic.Statement.{statement}

@@ -8,8 +8,8 @@ use denote.Ref.{now}
 use Rattle.params.proofs.RoomLaws.{alpha-most, q-room}
 use Rattle.shares.specs.Sharing.{arithmetic, boolean}
 use Rattle.switching.specs.ToModulus.{toModulus}
-use Rattle.gate.specs.Checks.{inside, firstFailing, checks}
-use Rattle.gate.proofs.CheckLaws.{Passed, all-passed, inside-out, checked-width}
+use Rattle.checks.specs.Checks.{inside, firstFailing, checks}
+use Rattle.checks.proofs.CheckLaws.{Passed, all-passed, inside-out, checked-width}
 use Rattle.gate.proofs.GadgetLaws.{silent-refused, silent-ran, closed-on-copy, held, held-given}
 use Rattle.conversions.specs.Convert.{toModQGadget}
 use Rattle.conversions.proofs.to_mod_q.Statement.{statement}

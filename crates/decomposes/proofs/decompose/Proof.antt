@@ -9,10 +9,10 @@ use Rattle.params.specs.Sets.{known}
 use Rattle.tape.specs.Tape.{start}
 use Rattle.draws.specs.Draws.{run}
 use Rattle.shares.specs.Sharing.{arithmetic}
-use Rattle.gate.specs.Checks.{firstFailing, checks}
+use Rattle.checks.specs.Checks.{firstFailing, checks}
 use Rattle.gate.specs.Gadget.{closed}
-use Rattle.gate.proofs.CheckLaws.{Passed, all-passed, checked}
-use Rattle.gate.proofs.AdmitLaws.{not-admitted, Good, good}
+use Rattle.checks.proofs.CheckLaws.{Passed, all-passed, checked}
+use Rattle.checks.proofs.AdmitLaws.{not-admitted, Good, good}
 use Rattle.gate.proofs.GadgetLaws.{gadget-refused, gadget-ran}
 use Rattle.decompose.specs.Decompose.{decompose}
 use Rattle.decomposes.specs.Decompose.{decomposeGadget}

@@ -9,9 +9,9 @@ use Rattle.params.specs.Sets.{known, ofKind}
 use Rattle.params.proofs.SetLaws.{kind-laws}
 use Rattle.tape.specs.Tape.{start}
 use Rattle.draws.specs.Draws.{run}
-use Rattle.gate.specs.Checks.{firstFailing, checks}
-use Rattle.gate.proofs.CheckLaws.{both-left, Passed, all-passed, checked}
-use Rattle.gate.proofs.AdmitLaws.{not-admitted, Good, good}
+use Rattle.checks.specs.Checks.{firstFailing, checks}
+use Rattle.checks.proofs.CheckLaws.{both-left, Passed, all-passed, checked}
+use Rattle.checks.proofs.AdmitLaws.{not-admitted, Good, good}
 use Rattle.gate.proofs.GadgetLaws.{judge-checks, judge-refused, judge-ran}
 use Rattle.verdict.specs.Verdict.{verdict}
 use Rattle.widens.specs.Widen.{kindRange}

@@ -6,8 +6,8 @@ use denote.Ref.{now}
 use Rattle.draws.specs.Draws.{bind, done}
 use Rattle.shares.specs.Refresh.{refresh}
 use Rattle.shares.specs.Sharing.{arithmetic}
-use Rattle.gate.specs.Checks.{inside, firstFailing, checks}
-use Rattle.gate.proofs.CheckLaws.{Passed, all-passed, inside-out, checked}
+use Rattle.checks.specs.Checks.{inside, firstFailing, checks}
+use Rattle.checks.proofs.CheckLaws.{Passed, all-passed, inside-out, checked}
 use Rattle.gate.proofs.GadgetLaws.{silent-refused, silent-ran, on-copy, held}
 use Rattle.refreshes.specs.Refresh.{refreshGadget}
 use Rattle.refreshes.proofs.refresh.Statement.{statement}

@@ -8,8 +8,8 @@ use denote.Ref.{now}
 use Rattle.draws.specs.Draws.{bind, done}
 use Rattle.shares.specs.Refresh.{refresh}
 use Rattle.shares.specs.Sharing.{boolean}
-use Rattle.gate.specs.Checks.{inside, firstFailing, checks}
-use Rattle.gate.proofs.CheckLaws.{Passed, all-passed, inside-out, checked-width}
+use Rattle.checks.specs.Checks.{inside, firstFailing, checks}
+use Rattle.checks.proofs.CheckLaws.{Passed, all-passed, inside-out, checked-width}
 use Rattle.gate.proofs.GadgetLaws.{silent-refused, silent-ran, on-copy, held}
 use Rattle.refreshes.specs.Refresh.{booleanGadget}
 use Rattle.refreshes.proofs.refresh_boolean.Statement.{statement}

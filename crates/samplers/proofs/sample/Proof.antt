@@ -12,9 +12,9 @@ use Rattle.tape.specs.declared.Cursor.{Cursor}
 use Rattle.tape.specs.Tape.{start}
 use Rattle.draws.specs.Draws.{run}
 use Rattle.shares.specs.Arrays.{shared}
-use Rattle.gate.specs.Checks.{firstFailing, checksOf}
-use Rattle.gate.proofs.CheckLaws.{AllPassed, all-checked, range-checked}
-use Rattle.gate.proofs.AdmitLaws.{not-admitted, Good, good}
+use Rattle.checks.specs.Checks.{firstFailing, checksOf}
+use Rattle.checks.proofs.CheckLaws.{AllPassed, all-checked, range-checked}
+use Rattle.checks.proofs.AdmitLaws.{not-admitted, Good, good}
 use Rattle.gate.proofs.GadgetLaws.{sampler-refused, sampler-ran}
 use Rattle.sample.specs.Sampling.{coefficient}
 use Rattle.samplers.specs.Samplers.{sampler}

@@ -8,9 +8,9 @@ use Rattle.params.specs.declared.Params.{Params}
 use Rattle.params.specs.Sets.{known}
 use Rattle.tape.specs.Tape.{start}
 use Rattle.draws.specs.Draws.{run}
-use Rattle.gate.specs.Checks.{firstFailing, checksOf}
-use Rattle.gate.proofs.CheckLaws.{AllPassed, all-checked, range-checked}
-use Rattle.gate.proofs.AdmitLaws.{not-admitted, Good, good}
+use Rattle.checks.specs.Checks.{firstFailing, checksOf}
+use Rattle.checks.proofs.CheckLaws.{AllPassed, all-checked, range-checked}
+use Rattle.checks.proofs.AdmitLaws.{not-admitted, Good, good}
 use Rattle.gate.proofs.GadgetLaws.{sampler-refused, sampler-ran}
 use Rattle.polynomial.specs.Polynomial.{polynomial}
 use Rattle.samplers.specs.Samplers.{polynomialSampler}

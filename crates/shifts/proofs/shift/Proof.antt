@@ -6,8 +6,8 @@ use lib.ListN.{length}
 use denote.Ref.{now}
 use Rattle.shares.specs.Sharing.{arithmetic}
 use Rattle.shift.specs.Shift.{shift}
-use Rattle.gate.specs.Checks.{firstFailing, checks}
-use Rattle.gate.proofs.CheckLaws.{Passed, all-passed, checked}
+use Rattle.checks.specs.Checks.{firstFailing, checks}
+use Rattle.checks.proofs.CheckLaws.{Passed, all-passed, checked}
 use Rattle.gate.proofs.GadgetLaws.{silent-refused, silent-ran, closed-on-copy, held, held-given}
 use Rattle.shifts.specs.Shift.{shiftRange, shiftGadget}
 use Rattle.shifts.proofs.RangeLaws.{shift-range-out, whole-power, whole-least}

@@ -4,8 +4,8 @@ use mathlib.Core.Bool.{true, false}
 use Prim.Native.Nat.{_≤_}
 use lib.Pow.{pow-pos}
 use borrow.Author.Tests.{eq-eqb, ne-eqb, not-true, not-false}
-use Rattle.gate.specs.Checks.{inside}
-use Rattle.gate.proofs.CheckLaws.{inside-out}
+use Rattle.checks.specs.Checks.{inside}
+use Rattle.checks.proofs.CheckLaws.{inside-out}
 use Rattle.shifts.proofs.RangeLaws.{shift-range-word}
 use Rattle.shifts.proofs.shift_range.Statement.{statement}
 use Rattle.shifts.proofs.shift_range.Tie as tie

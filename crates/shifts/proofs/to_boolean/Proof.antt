@@ -7,8 +7,8 @@ use lib.Pow.{pow-mono}
 use denote.Ref.{now}
 use Rattle.shares.specs.Sharing.{arithmetic, boolean}
 use Rattle.shift.specs.ToBoolean.{toBoolean}
-use Rattle.gate.specs.Checks.{inside, firstFailing, checks}
-use Rattle.gate.proofs.CheckLaws.{Passed, all-passed, inside-out, checked-width}
+use Rattle.checks.specs.Checks.{inside, firstFailing, checks}
+use Rattle.checks.proofs.CheckLaws.{Passed, all-passed, inside-out, checked-width}
 use Rattle.gate.proofs.GadgetLaws.{silent-refused, silent-ran, closed-on-copy, held, held-given}
 use Rattle.shifts.specs.Shift.{toBooleanGadget}
 use Rattle.shifts.proofs.to_boolean.Statement.{statement}

@@ -3,7 +3,7 @@ use mathlib.Core.Path.{sym, ap, _∙_}
 use mathlib.Core.Bool.{Bool}
 use borrow.Author.Tests.{not-true, not-false}
 use Rattle.numbers.specs.Tests.{both}
-use Rattle.gate.specs.Checks.{inside}
+use Rattle.checks.specs.Checks.{inside}
 use Rattle.widens.specs.Widen.{kindRange}
 use Rattle.widens.proofs.kind_range.Statement.{statement}
 use Rattle.widens.proofs.kind_range.Tie as tie

@@ -10,9 +10,9 @@ use Rattle.params.proofs.SetLaws.{kind-laws}
 use Rattle.tape.specs.Tape.{start}
 use Rattle.draws.specs.Draws.{bind, run}
 use Rattle.shares.specs.Refresh.{refresh}
-use Rattle.gate.specs.Checks.{firstFailing, checks}
-use Rattle.gate.proofs.CheckLaws.{both-left, Passed, all-passed, checked}
-use Rattle.gate.proofs.AdmitLaws.{not-admitted, Good, good}
+use Rattle.checks.specs.Checks.{firstFailing, checks}
+use Rattle.checks.proofs.CheckLaws.{both-left, Passed, all-passed, checked}
+use Rattle.checks.proofs.AdmitLaws.{not-admitted, Good, good}
 use Rattle.gate.proofs.GadgetLaws.{silent-refused, silent-ran}
 use Rattle.widening.specs.Widening.{widened, widen}
 use Rattle.widens.specs.Widen.{kindRange, widenGadget}

@@ -4,10 +4,10 @@ use mathlib.Core.List.{[]}
 use lib.ListN.{length}
 use borrow.Author.Tests.{not-true, not-false}
 use denote.Ref.{now}
-use Rattle.gate.specs.Checks.{firstFailing, checksOf, checks}
-use Rattle.gate.proofs.CheckLaws.{of-one, fails-as, fails-later, AllPassed, all-checked, below-fails, below-passes}
-use Rattle.gate.proofs.first_failing.Statement.{statement}
-use Rattle.gate.proofs.first_failing.Tie as tie
+use Rattle.checks.specs.Checks.{firstFailing, checksOf, checks}
+use Rattle.checks.proofs.CheckLaws.{of-one, fails-as, fails-later, AllPassed, all-checked, below-fails, below-passes}
+use Rattle.checks.proofs.first_failing.Statement.{statement}
+use Rattle.checks.proofs.first_failing.Tie as tie
 
 first-of-three-requires : tie.Need-first-of-three-requires
 first-of-three-requires c κs = search needs

@@ -12,7 +12,7 @@ use lib.Dec.{ltb, leb, eqb}
 use borrow.Author.Tests.{lt-ltb, le-ltb, le-leb, lt-leb, eq-eqb, ne-eqb, leb-true, ltb-true, eqb-true}
 use Rattle.numbers.specs.Tests.{both, pick}
 use Rattle.numbers.specs.Lists.{Words}
-use Rattle.gate.specs.Checks.{inside, allBelow, firstFailing, checksOf, Checked, checks}
+use Rattle.checks.specs.Checks.{inside, allBelow, firstFailing, checksOf, Checked, checks}
 
 pub both-left : (a b : Bool) → both a b ≡ true → a ≡ true
 both-left true b e = refl

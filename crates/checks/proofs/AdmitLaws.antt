@@ -11,9 +11,9 @@ use Rattle.params.specs.declared.Params.{Params}
 use Rattle.params.specs.Sets.{setOf, known, paramsOf}
 use Rattle.params.specs.Laws.{Laws}
 use Rattle.params.proofs.SetLaws.{set-laws, known-so}
-use Rattle.gate.specs.declared.Admitted.{Admitted}
-use Rattle.gate.specs.declared.Admitted.the-variants.{Set, Refused}
-use Rattle.gate.specs.Admission.{admittedStandsFor, admission}
+use Rattle.checks.specs.declared.Admitted.{Admitted}
+use Rattle.checks.specs.declared.Admitted.the-variants.{Set, Refused}
+use Rattle.checks.specs.Admission.{admittedStandsFor, admission}
 
 -- no check failed, and p is the set
 pub record Good (number set : ℕ) (p : Params) : Type 0 where

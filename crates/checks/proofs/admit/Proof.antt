@@ -4,10 +4,10 @@ use mathlib.Core.Bool.{true, false}
 use Prim.Native.Nat.{ℕ}
 use native.Mathlib.Omega.{arith}
 use Rattle.params.proofs.SetLaws.{set-is, set-unknown}
-use Rattle.gate.specs.Admission.{admittedStandsFor}
-use Rattle.gate.proofs.AdmitLaws.{refused-admits, set-admits}
-use Rattle.gate.proofs.admit.Statement.{statement}
-use Rattle.gate.proofs.admit.Tie as tie
+use Rattle.checks.specs.Admission.{admittedStandsFor}
+use Rattle.checks.proofs.AdmitLaws.{refused-admits, set-admits}
+use Rattle.checks.proofs.admit.Statement.{statement}
+use Rattle.checks.proofs.admit.Tie as tie
 
 returns : tie.Need-returns
 unfolding admittedStandsFor

@@ -1,7 +1,7 @@
 use borrow.Author.Tests.{lt-leb, le-leb}
-use Rattle.gate.specs.Checks.{inside}
-use Rattle.gate.proofs.inside.Statement.{statement}
-use Rattle.gate.proofs.inside.Tie as tie
+use Rattle.checks.specs.Checks.{inside}
+use Rattle.checks.proofs.inside.Statement.{statement}
+use Rattle.checks.proofs.inside.Tie as tie
 
 returns : tie.Need-returns
 unfolding inside

@@ -5,8 +5,8 @@ use lib.Dec.{eqb}
 use Rattle.numbers.specs.Tests.{pick}
 use Rattle.params.specs.declared.Params.{Params}
 use Rattle.params.specs.Sets.{setOf}
-use Rattle.gate.specs.declared.Admitted.{Admitted}
-use Rattle.gate.specs.declared.Admitted.the-variants.{Set, Refused}
+use Rattle.checks.specs.declared.Admitted.{Admitted}
+use Rattle.checks.specs.declared.Admitted.the-variants.{Set, Refused}
 
 -- a number, and the constants of a set where it is 0
 unfoldable pub admittedStandsFor : Admitted → ℕ × Option Params

@@ -2,10 +2,10 @@ use borrow.Author.Needs.{needs}
 use Prim.Native.Nat.{_*_, _≤_}
 use native.Mathlib.Nat.{mul-le-mul}
 use native.Mathlib.Omega.{arith}
-use Rattle.gate.specs.Checks.{firstFailing}
-use Rattle.gate.proofs.CheckLaws.{inside-low, inside-high, fails-1, fails-2, fails-3, fails-later}
-use Rattle.gate.proofs.first_of_three.Statement.{statement}
-use Rattle.gate.proofs.first_of_three.Tie as tie
+use Rattle.checks.specs.Checks.{firstFailing}
+use Rattle.checks.proofs.CheckLaws.{inside-low, inside-high, fails-1, fails-2, fails-3, fails-later}
+use Rattle.checks.proofs.first_of_three.Statement.{statement}
+use Rattle.checks.proofs.first_of_three.Tie as tie
 
 returns : tie.Need-returns
 returns c = fails-1 _ _ _ _ _ (inside-low 2 8 _ (c .if1 .taken))

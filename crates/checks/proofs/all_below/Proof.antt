@@ -2,10 +2,10 @@ use borrow.Author.Needs.{needs}
 use mathlib.Core.Path.{_≡_, refl, _∙_}
 use Prim.Native.Nat.{_-_, _≤_}
 use lib.ListN.{length, drop}
-use Rattle.gate.specs.Checks.{allBelow}
-use Rattle.gate.proofs.CheckLaws.{below-end, below-stop, below-more}
-use Rattle.gate.proofs.all_below.Statement.{statement}
-use Rattle.gate.proofs.all_below.Tie as tie
+use Rattle.checks.specs.Checks.{allBelow}
+use Rattle.checks.proofs.CheckLaws.{below-end, below-stop, below-more}
+use Rattle.checks.proofs.all_below.Statement.{statement}
+use Rattle.checks.proofs.all_below.Tie as tie
 
 abbrev Inv-loop : tie.InvT-loop
 Inv-loop shares m i₀ i-end i = (i-end ≡ length shares) × (i ≤ i-end) × (allBelow m (drop i shares) ≡ allBelow m shares)

@@ -1,0 +1,2 @@
+pub mod CheckLaws
+pub mod AdmitLaws

@@ -1,0 +1,2 @@
+pub mod Checks
+pub mod Admission
