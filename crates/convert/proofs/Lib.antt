@@ -1,4 +1,2 @@
-pub mod ListLaws
 pub mod RuleLaws
-pub mod PsiLaws
 pub mod ValueLaws

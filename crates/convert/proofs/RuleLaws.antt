@@ -24,8 +24,9 @@ use Rattle.shares.specs.Refresh.{refresh}
 use Rattle.shares.specs.Arrays.{Held, Copied, Given}
 use Rattle.shares.proofs.ArraysLaws.{held-at, copied-take, held-copied, given-as, whole}
 use Rattle.shares.proofs.TurnLaws.{Remaining, remaining-start, remaining-none, remaining-ended, remaining-draw, remaining-more}
-use Rattle.convert.specs.ToArithmetic.{psi, psis, zOf, added, rule, toArithmetic}
-use Rattle.convert.proofs.ListLaws.{psi-below, z-take}
+use Rattle.psi.specs.Psi.{psi, psis, zOf, added}
+use Rattle.convert.specs.ToArithmetic.{rule, toArithmetic}
+use Rattle.psi.proofs.ListLaws.{psi-below, z-take}
 
 -- three shares: the words that the refresh makes of them, and the two results
 three-words : (ws : List ℕ) (x y z : ℕ) → length ws ≡ 9 → take 3 (set (set (set ws 0 x) 1 y) 2 z) ≡ x ∷ y ∷ z ∷ []

@@ -28,9 +28,10 @@ use Rattle.shares.specs.Sharing.{arithmetic, boolean}
 use Rattle.shares.specs.Refresh.{refreshPlan}
 use Rattle.shares.proofs.SharingLaws.{Shares}
 use Rattle.shares.proofs.RefreshLaws.{refresh-keeps}
-use Rattle.convert.specs.ToArithmetic.{psi, psis, zOf, added, rule, toArithmetic, toArithmeticPlan}
-use Rattle.convert.proofs.ListLaws.{z-words}
-use Rattle.convert.proofs.PsiLaws.{psi-add, psi-affine}
+use Rattle.psi.specs.Psi.{psi, psis, zOf, added}
+use Rattle.convert.specs.ToArithmetic.{rule, toArithmetic, toArithmeticPlan}
+use Rattle.psi.proofs.ListLaws.{z-words}
+use Rattle.psi.proofs.PsiLaws.{psi-add, psi-affine}
 
 -- ---- Z recombines to Ψ of x and what U recombines to
 -- what is combined into the first of Z, of s shares

@@ -1,11 +1,11 @@
 // The rule of document 01, and the conversion, which applies it to the shares with a zero share after them.
-use super::lists::added;
-use super::lists::psi;
-use super::lists::u_of;
-use super::lists::z_of;
 use super::nine::into_nine;
 use super::nine::refresh_nine;
 use params::Params;
+use psi::added;
+use psi::psi;
+use psi::u_of;
+use psi::z_of;
 use shares::Shared;
 use tape::Cursor;
 use tape::Draw;

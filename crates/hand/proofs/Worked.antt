@@ -13,7 +13,8 @@ use Rattle.shares.specs.Refresh.{turn, refresh}
 use Rattle.halving.specs.Halving.{join, joinTurn, sharedParity, less, moveParity, evened, halves, halving}
 use Rattle.shift.specs.Shift.{shift}
 use Rattle.shift.specs.ToBoolean.{withBit, bitsFrom, toBoolean}
-use Rattle.convert.specs.ToArithmetic.{psi, psis, zOf, added, rule, toArithmetic}
+use Rattle.psi.specs.Psi.{psi, psis, zOf, added}
+use Rattle.convert.specs.ToArithmetic.{rule, toArithmetic}
 use Rattle.switching.specs.Switching.{floors, raised, raisedShift, carries, without}
 use Rattle.switching.specs.ToModulus.{toModulus}
 use Rattle.checks.specs.Checks.{inside, allBelow, firstFailing, checksOf, checks}

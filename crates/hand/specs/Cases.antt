@@ -6,7 +6,7 @@ use lib.IntN.{ℤ, pos, negℤ}
 use Rattle.numbers.specs.Modulo.{q}
 use Rattle.params.specs.Sets.{paramsOf}
 use Rattle.tape.specs.Tape.{start, ran, drawAt}
-use Rattle.convert.specs.ToArithmetic.{psi}
+use Rattle.psi.specs.Psi.{psi}
 use Rattle.gate.specs.Told.{Told}
 use Rattle.gate.specs.Gadget.{tells}
 use Rattle.gate.specs.Sampler.{samples}

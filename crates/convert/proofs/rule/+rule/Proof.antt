@@ -13,7 +13,7 @@ use Rattle.draws.specs.Draws.{run}
 use Rattle.shares.specs.Sharing.{boolean}
 use Rattle.shares.specs.Refresh.{refresh}
 use Rattle.shares.proofs.ArraysLaws.{gave, stopped, whole, cut-off}
-use Rattle.convert.proofs.ListLaws.{z-words}
+use Rattle.psi.proofs.ListLaws.{z-words}
 use Rattle.convert.proofs.RuleLaws.{rule-three, held-shorter, u-words, refresh-ended, u-ended, z-ended, rule-gave}
 use borrow.Fn.Kinds.{In}
 use borrow.Fn.PlainCycle.{Measures, is, falls, and}
@@ -22,9 +22,9 @@ use Rattle.convert.proofs.rule.+rule.Tie.{close}
 use Rattle.convert.proofs.rule.rule.Reads as rule
 use Rattle.convert.proofs.rule.rule.Kinds as rule-kinds
 use Rattle.convert.proofs.rule.+rule.Lts-rule as rule-lts
-use Rattle.convert.proofs.lists.added.Reads as added-reads
-use Rattle.convert.proofs.lists.u_of.Reads as u-of-reads
-use Rattle.convert.proofs.lists.z_of.Reads as z-of-reads
+use Rattle.psi.proofs.added.Reads as added-reads
+use Rattle.psi.proofs.u_of.Reads as u-of-reads
+use Rattle.psi.proofs.z_of.Reads as z-of-reads
 use Rattle.shares.proofs.Shared.ended.Reads as ended-reads
 use Rattle.convert.proofs.nine.refresh_nine.Reads as refresh-nine-reads
 use Rattle.convert.proofs.rule.of_three.Reads as of-three-reads

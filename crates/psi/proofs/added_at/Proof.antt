@@ -1,8 +1,8 @@
 use borrow.Author.Needs.{needs}
 use mathlib.Core.Path.{sym}
 use native.Mathlib.Omega.{arith}
-use Rattle.convert.proofs.lists.added_at.Statement.{statement}
-use Rattle.convert.proofs.lists.added_at.Tie as tie
+use Rattle.psi.proofs.added_at.Statement.{statement}
+use Rattle.psi.proofs.added_at.Tie as tie
 
 mul-add-mod : tie.Need-mul-add-mod
 mul-add-mod c = search needs

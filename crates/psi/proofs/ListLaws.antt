@@ -20,7 +20,7 @@ use Rattle.numbers.proofs.GroupLaws.{sub-only}
 use Rattle.numbers.proofs.XorLaws.{xor-below}
 use Rattle.numbers.proofs.WordsLaws.{words-at, words-set, words-change, take-change}
 use Rattle.numbers.proofs.AlongLaws.{along-is, take-along, words-along}
-use Rattle.convert.specs.ToArithmetic.{psi, psis, zOf, added}
+use Rattle.psi.specs.Psi.{psi, psis, zOf, added}
 
 -- ---- Ψ: what the wrapping subtraction gives is the difference modulo 2^32
 pub wraps : {r : ℕ} (a b : ℕ) → r < 2 ^ 32 → (r + b) % 2 ^ 32 ≡ a → r ≡ subMod (2 ^ 32) a b

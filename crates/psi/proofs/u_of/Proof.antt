@@ -6,8 +6,8 @@ use native.Mathlib.Nat.{add-comm}
 use lib.ListN.{length, getD, drop, length-drop}
 use lib.Seq.{getD-drop}
 use Rattle.shares.proofs.ArraysLaws.{Copying, copying-start, copying-more, copying-all}
-use Rattle.convert.proofs.lists.u_of.Statement.{statement}
-use Rattle.convert.proofs.lists.u_of.Tie as tie
+use Rattle.psi.proofs.u_of.Statement.{statement}
+use Rattle.psi.proofs.u_of.Tie as tie
 
 abbrev Inv-loop : tie.InvT-loop
 Inv-loop shares words₀ i₀ words i = (length (drop 1 shares) ≡ 8) × Copying 9 (drop 1 shares) i words

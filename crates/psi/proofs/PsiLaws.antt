@@ -10,8 +10,8 @@ use Rattle.numbers.specs.Modulo.{subMod, xor}
 use Rattle.numbers.proofs.Cong.{Cong, cong-by, cong-out, cong-eq, cong-mod, cong-add, cong-refl, cong-sym, cong-cancel, cong-small, cong-part, via, _⨾_}
 use Rattle.numbers.proofs.XorLaws.{xor-zero, xor-half, xor-odd, by-digits}
 use Rattle.numbers.proofs.GroupLaws.{sub-back, sub-only}
-use Rattle.convert.specs.ToArithmetic.{psi}
-use Rattle.convert.proofs.ListLaws.{psi-below}
+use Rattle.psi.specs.Psi.{psi}
+use Rattle.psi.proofs.ListLaws.{psi-below}
 
 -- ---- x ⊕ u = Ψ(x,u) + u mod 2^k
 pub psi-add : (k x u : ℕ) → k ≤ 32 → Cong (2 ^ k) (psi k x u + u) (xor x u)

@@ -3,10 +3,10 @@ use mathlib.Core.Path.{_∙_}
 use Prim.Native.Nat.{_-_}
 use Rattle.numbers.proofs.AlongLaws.{Along, along-start, along-more, along-all}
 use Rattle.numbers.specs.Modulo.{xor}
-use Rattle.convert.specs.ToArithmetic.{psi, psis}
-use Rattle.convert.proofs.ListLaws.{z-odd, z-even}
-use Rattle.convert.proofs.lists.z_of.Statement.{statement}
-use Rattle.convert.proofs.lists.z_of.Tie as tie
+use Rattle.psi.specs.Psi.{psi, psis}
+use Rattle.psi.proofs.ListLaws.{z-odd, z-even}
+use Rattle.psi.proofs.z_of.Statement.{statement}
+use Rattle.psi.proofs.z_of.Tie as tie
 
 abbrev Inv-loop : tie.InvT-loop
 Inv-loop x s k words₀ i₀ words i = Along 9 (λ j y. psi k x y) words₀ i words

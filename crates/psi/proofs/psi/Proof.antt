@@ -3,10 +3,10 @@ use mathlib.Core.Path.{ap₂}
 use Prim.Native.Nat.{_<_, _%_, _^_}
 use lib.Pow.{pow-pos}
 use Rattle.numbers.specs.Modulo.{xor}
-use Rattle.convert.specs.ToArithmetic.{psi}
-use Rattle.convert.proofs.ListLaws.{wraps}
-use Rattle.convert.proofs.lists.psi.Statement.{statement}
-use Rattle.convert.proofs.lists.psi.Tie as tie
+use Rattle.psi.specs.Psi.{psi}
+use Rattle.psi.proofs.ListLaws.{wraps}
+use Rattle.psi.proofs.psi.Statement.{statement}
+use Rattle.psi.proofs.psi.Tie as tie
 
 wrapping-sub-u32-requires : tie.Need-wrapping-sub-u32-requires
 wrapping-sub-u32-requires c κs = search needs

@@ -1,9 +1,9 @@
 use borrow.Author.Needs.{needs}
 use Prim.Native.Nat.{_-_, _^_}
 use lib.Pow.{pow-pos}
-use Rattle.convert.proofs.ListLaws.{Adding, adding-start, adding-more, adding-all}
-use Rattle.convert.proofs.lists.added.Statement.{statement}
-use Rattle.convert.proofs.lists.added.Tie as tie
+use Rattle.psi.proofs.ListLaws.{Adding, adding-start, adding-more, adding-all}
+use Rattle.psi.proofs.added.Statement.{statement}
+use Rattle.psi.proofs.added.Tie as tie
 
 abbrev Inv-loop : tie.InvT-loop
 Inv-loop u z n k last words₀ i₀ words i = Adding (2 ^ k) last u z i words

@@ -1,4 +1,4 @@
-// The lists that the rule makes: U, Z, and their results added. The maps go over all words of an array, which are all below 2^k.
+// The lists that the rule of Boolean to arithmetic makes: U, Z by Ψ, and their results added. The maps go over all words of an array, which are all below 2^k.
 use params::Params;
 use words::add_mod;
 use words::power;
@@ -8,7 +8,7 @@ ghost use lib.ListN.{getD, take, drop};
 ghost use Rattle.numbers.specs.Modulo.{addMod};
 ghost use Rattle.numbers.specs.Lists.{Words};
 ghost use Rattle.shares.specs.Arrays.{Copied};
-ghost use Rattle.convert.specs.ToArithmetic.{psi, zOf, added};
+ghost use Rattle.psi.specs.Psi.{psi, zOf, added};
 
 // Ψ(x,u). The remainder is by a power of two, so it compiles to a mask.
 pub fn psi(x: u32, u: u32, k: u32) -> u32
