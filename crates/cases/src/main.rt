@@ -1,20 +1,12 @@
 // Runs the public gadgets on the hand cases and on many pseudo-random calls, and prints for each gadget and share count how often
 // each number was answered and a checksum of everything answered. docs/CASES.md says which calls are made.
-mod aims;
-mod calls;
-mod far;
-mod inputs;
-mod parameters;
+mod names;
 mod parts;
-mod rounds;
-mod sets;
-mod tally;
-mod tapes;
 mod verdicts;
 
-use parameters::Pair;
+use inputs::Pair;
 use params::Params;
-use tally::Tally;
+use rounds::Tally;
 use tape::Cursor;
 use tape::Draw;
 ghost use Prim.Native.Nat.{_≤_};
@@ -43,17 +35,17 @@ fn draw_below_q(a: u32, b: u32) {
         return;
     };
     number(r);
-    number(tally::low(c.at));
+    number(rounds::low(c.at));
     text(b"\n");
 }
 
 // A call on two shares: the number, the words used, and the output slice, which begins as 7s.
 fn on_two(gadget: u32, shares: &[u32], tape: &[u32], p: Pair) {
     let mut out = [7u32; 2];
-    let told = calls::call(gadget, shares, tape, p, &mut out);
-    calls::name(gadget);
+    let told = rounds::call(gadget, shares, tape, p, &mut out);
+    names::name(gadget);
     number(told.number);
-    number(tally::low(told.used));
+    number(rounds::low(told.used));
     numbers(&out);
     text(b"\n");
 }
@@ -79,8 +71,8 @@ fn told(t: Tally) {
 
 fn line(gadget: u32, n: usize) {
     let t = rounds::all_rounds(gadget, n);
-    calls::name(gadget);
-    number(tally::low(n));
+    names::name(gadget);
+    number(rounds::low(n));
     told(t);
 }
 
@@ -91,8 +83,8 @@ fn lines(gadget: u32) {
 }
 
 fn far_line(gadget: u32) {
-    let t = far::all_counts(gadget);
-    calls::name(gadget);
+    let t = rounds::all_counts(gadget);
+    names::name(gadget);
     text(b" far");
     told(t);
 }
@@ -107,15 +99,15 @@ fn answered(gadget: u32, residue: u32, n: usize)
         return;
     }
     let told = verdicts::on_zeros(residue, n);
-    let used = tally::low(told.used);
+    let used = rounds::low(told.used);
     numbers(&[told.number, told.verdict, told.opened, used]);
 }
 
 fn shared_line(gadget: u32, residue: u32, n: usize)
     requires { ⌜ n ≤ 8 ⌝ }
 {
-    calls::name(gadget);
-    numbers(&[tally::low(n), residue]);
+    names::name(gadget);
+    numbers(&[rounds::low(n), residue]);
     answered(gadget, residue, n);
     text(b"\n");
 }
@@ -155,7 +147,7 @@ fn sizes_line(p: Pair, n: usize)
     requires { ⌜ n ≤ 8 ⌝ }
 {
     text(b"verdict");
-    numbers(&[p.first, p.second, tally::low(n)]);
+    numbers(&[p.first, p.second, rounds::low(n)]);
     sizes(p, n);
     text(b"\n");
 }
@@ -163,7 +155,7 @@ fn sizes_line(p: Pair, n: usize)
 // For each set, for each kind, for 2 to 8 shares.
 fn all_sizes() {
     for i in 0..42 {
-        let p = Pair::of(sets::known(i / 14), i / 7 % 2 + 1);
+        let p = Pair::of(inputs::known(i / 14), i / 7 % 2 + 1);
         sizes_line(p, (i % 7 + 2) as usize);
     }
 }

@@ -1,7 +1,7 @@
 // Decompose, set 44, in shares.
-use super::inputs::share;
-use super::tally::low;
 use gadgets::decompose;
+use inputs::share;
+use rounds::low;
 use trials::fill;
 use trials::mix;
 use trials::recombined;

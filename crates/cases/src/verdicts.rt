@@ -1,11 +1,11 @@
 // The verdict on shares of a residue.
-use super::aims::accepted_below;
-use super::aims::reach;
-use super::inputs::share;
-use super::parameters::Pair;
-use super::tally::low;
 use gadgets::Judged;
 use gadgets::verdict;
+use inputs::Pair;
+use inputs::accepted_below;
+use inputs::reach;
+use inputs::share;
+use rounds::low;
 use trials::fill;
 use trials::mix;
 ghost use Prim.Native.Nat.{_<_, _≤_};

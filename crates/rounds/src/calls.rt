@@ -1,0 +1,34 @@
+// The gadgets by their numbers.
+use gadgets::Answer;
+use gadgets::refresh;
+use gadgets::refresh_boolean;
+use gadgets::sample;
+use gadgets::sample_polynomial;
+use gadgets::shift;
+use gadgets::to_arithmetic;
+use gadgets::to_boolean;
+use gadgets::to_mod_q;
+use gadgets::widen;
+use inputs::Pair;
+
+// A sampler has no shares to count, so it is told how many there are.
+pub fn call_sampler(gadget: u32, tape: &[u32], n: usize, set: u32, out: &mut [u32]) -> Answer {
+    match gadget {
+        7 => sample(tape, n, set, out),
+        _ => sample_polynomial(tape, n, set, out),
+    }
+}
+
+// Of the shares a sampler is given the count alone. Decompose and the verdict are not here, since they answer more.
+pub fn call(gadget: u32, shares: &[u32], tape: &[u32], p: Pair, out: &mut [u32]) -> Answer {
+    match gadget {
+        1 => refresh(shares, tape, p.first, out),
+        2 => refresh_boolean(shares, tape, p.first, out),
+        3 => shift(shares, tape, p.first, p.second, out),
+        4 => to_boolean(shares, tape, p.first, out),
+        5 => to_arithmetic(shares, tape, p.first, out),
+        6 => to_mod_q(shares, tape, p.first, out),
+        9 => widen(shares, tape, p.first, p.second, out),
+        _ => call_sampler(gadget, tape, shares.len(), p.first, out),
+    }
+}
