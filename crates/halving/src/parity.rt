@@ -14,12 +14,13 @@ ghost use Rattle.shares.specs.Arrays.{Held, Gave};
 ghost use Rattle.halving.specs.Halving.{join, sharedParity};
 ghost use Rattle.halving.specs.AtOnce.{signed, joined};
 
-// A word with the sign that a parity asks for.
+// A word with the sign that a parity asks for. The parity is a factor, not a test: it is as good as random, so half of all branches on it would be
+// foreseen wrongly.
 fn signed(p: u32, x: u32, modulus: u32) -> u32
-    requires { ⌜ x < modulus ⌝ }
+    requires { ⌜ (x < modulus) × (p < 2) ⌝ }
     ensures { λ r. ⌜ r ≡ signed modulus p x ⌝ }
 {
-    if p == 1 { neg_mod(x, modulus) } else { x }
+    p * neg_mod(x, modulus) + (1 - p) * x
 }
 
 // The word at place i once a parity has joined.
@@ -31,13 +32,17 @@ fn joined(i: usize, p: u32, x: u32, modulus: u32) -> u32
     if i == 0 { add_mod(y, p, modulus) } else { y }
 }
 
-fn join(words: [u32; Params::MOST], p: u32, modulus: u32) -> [u32; Params::MOST]
-    requires { ⌜ Words 8 modulus words × (2 ≤ modulus) × (p < 2) ⌝ }
-    ensures { λ r. ⌜ r ≡ join modulus p words ⌝ }
+// The pass ends at n, so nothing is done for the places after the last share.
+fn join(words: [u32; Params::MOST], n: usize, p: u32, modulus: u32) -> [u32; Params::MOST]
+    requires { ⌜ Words 8 modulus words × (n ≤ 8) × (2 ≤ modulus) × (p < 2) ⌝ }
+    ensures { λ r. ⌜ Words 8 modulus r × (take n r ≡ join modulus p (take n words)) ⌝ }
 {
-    let mut out = words;
+    let mut out = [0u32; Params::MOST];
     for i in 0..Params::MOST {
-        out[i] = joined(i, p, out[i], modulus);
+        if i == n {
+            return out;
+        }
+        out[i] = joined(i, p, words[i], modulus);
     }
     out
 }
@@ -60,7 +65,7 @@ pub fn shared_parity(
             return Shared::ended();
         }
         let fresh = s.words;
-        words = join(fresh, shares[i] % 2, modulus);
+        words = join(fresh, n, shares[i] % 2, modulus);
         cur = s.cursor;
     }
     Shared {

@@ -44,7 +44,8 @@ array-read-join c = search needs
 join-requires : tie.Need-join-requires Inv-loop μ-loop
 join-requires c κs = let e = c .before in
     let r = e .before .before in
-    (r .refresh .ensures .below (not-false _ (e .if1 .left)), r .before .before .loop .inv .left .held .two, omega arith)
+    let h = r .before .before .loop .inv .left .held in
+    (r .refresh .ensures .below (not-false _ (e .if1 .left)), h .most, h .two, omega arith)
 
 add-i : tie.Need-add-i Inv-loop μ-loop
 add-i c = search needs
@@ -55,7 +56,7 @@ loop-less c = search needs
 loop-again : tie.Need-loop-again Inv-loop μ-loop
 loop-again c = let e = c .before .before .before in
     let r = e .before .before in
-    joining-more (r .before .before .loop .inv) (r .before .loop-test .taken) (gave (r .refresh .ensures) (e .if1 .left)) (r .refresh .ensures .below (not-false _ (e .if1 .left))) (c .before .join .ensures)
+    joining-more (r .before .before .loop .inv) (r .before .loop-test .taken) _ (gave (r .refresh .ensures) (e .if1 .left)) (c .before .join .ensures)
 
 returns-2 : tie.Need-returns-2 Inv-loop μ-loop
 returns-2 c = let l = c .before .loop .inv in whole refl (l .left .held .all) (looping-done (l .left) (c .loop-test .left))
