@@ -25,7 +25,7 @@ pub fn inside(low: u32, high: u32, x: u32) -> bool
     x <= high
 }
 
-// What Boolean shares of width k are below, for k up to 31; any other width is refused before a share is looked at.
+// What shares of width k, or modulo 2^k, are below, for k up to 31; any other k is refused before a share is looked at.
 pub fn width_bound(k: u32) -> u32
     ensures { λ r. ⌜ r ≡ 2 ^ (k % 32) ⌝ }
 {

@@ -16,7 +16,7 @@ use Rattle.gate.specs.Told.{Outcome}
 abbrev pub highShift : ℕ → ℕ
 highShift n = 23 + alpha n
 
--- shares mod δ of the high part: γ2 is added to share 1 of a copy; the floors of x_i·δ·2^(23+α)/q mod δ·2^(23+α), n − 1 added to the first, are
+-- shares mod δ of the high part: γ2 is added to the first share of a copy; the floors of x_i·δ·2^(23+α)/q mod δ·2^(23+α), n − 1 added to the first, are
 -- shifted by 23 + α and refreshed
 unfoldable pub highShares : Params → List ℕ → Draws (List ℕ)
 highShares p xs =
@@ -31,7 +31,7 @@ highPart p xs = bind (highShares p xs) (λ hs. done (value (arithmetic (p .delta
 unfoldable pub highPlan : Params → ℕ → List ℕ
 highPlan p n = shiftPlan (p .delta) (highShift n) n ++ refreshPlan (arithmetic (p .delta)) n
 
--- the low shares are the input with 2γ2 times the high part taken from share 1 mod q
+-- the low shares are the input with 2γ2 times the high part taken from the first share mod q
 unfoldable pub lowShares : Params → ℕ → List ℕ → List ℕ
 lowShares p high xs = takeFromFirst (arithmetic q) (2 * p .gamma2 * high) xs
 

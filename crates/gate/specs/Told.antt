@@ -31,11 +31,12 @@ pub record Outcome : Type 0 where
 abbrev pub silent : List ℕ → Outcome
 silent xs = record { opened = []; shares = xs }
 
--- shares that were given, with the numbers that were opened before; or with none
+-- shares that were given, with the numbers that were opened before
 unfoldable pub openedRan : List ℕ → Ran (List ℕ) → Ran Outcome
 openedRan opened ended = ended
 openedRan opened (ran xs c) = ran (record { opened = opened; shares = xs }) c
 
+-- or with none
 abbrev pub silentRan : Ran (List ℕ) → Ran Outcome
 silentRan x = openedRan [] x
 

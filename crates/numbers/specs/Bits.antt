@@ -8,7 +8,7 @@ use Rattle.numbers.specs.Tests.{pick}
 unfoldable pub bitsOf : ℕ → ℕ
 bitsOf M = 32 - leadingZeros 32 (M - 1)
 
--- the first a, from a on and trying k of them, whose power of two is n or more
+-- the first number from a on, of k that are tried, whose power of two is n or more
 unfoldable pub powerFrom : ℕ → ℕ → ℕ → ℕ
 powerFrom n a zero = a
 powerFrom n a (suc k) = pick (leb n (2 ^ a)) a (powerFrom n (suc a) k)

@@ -10,7 +10,7 @@ use Rattle.shares.specs.Sharing.{arithmetic, takeFromFirst}
 use Rattle.shares.specs.Refresh.{refresh, refreshPlan}
 use Rattle.switching.specs.ToModulus.{toModulus, toModulusPlan}
 
--- γ1 − 1 taken from share 1
+-- γ1 − 1 taken from the first share
 unfoldable pub lowered : ℕ → List ℕ → List ℕ
 lowered γ1 xs = takeFromFirst (arithmetic q) (γ1 - 1) xs
 

@@ -28,7 +28,7 @@ abbrev pub minus : Sharing → ℕ → ℕ → ℕ
 minus (arithmetic M) = subMod M
 minus (boolean k) = xor
 
--- r added to share 1, and taken from it
+-- r added to the first share, and taken from it
 unfoldable pub addToFirst : Sharing → ℕ → List ℕ → List ℕ
 addToFirst s r xs = change (λ x. plus s x r) 0 xs
 

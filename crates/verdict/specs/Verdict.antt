@@ -14,7 +14,7 @@ use Rattle.widening.specs.Widening.{wide, widened, widen, widenPlan}
 use Rattle.product.specs.Product.{product, productPlan}
 use Rattle.zero.specs.ZeroTest.{zeroTest, scalesPlan}
 
--- one side of widened shares: a is taken from share 1, and they are shifted by ρ, from 2^ρ·q to q
+-- one side of widened shares: a is taken from the first share, and they are shifted by ρ, from 2^ρ·q to q
 unfoldable pub side : Bounds → List ℕ → Draws (List ℕ)
 side k ws = shift q (k .rho) (takeFromFirst (widened k) (k .a) ws)
 

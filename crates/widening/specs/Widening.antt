@@ -21,8 +21,8 @@ widened k = arithmetic (wide k)
 abbrev pub widenShift : ℕ → ℕ
 widenShift n = alpha n + 1
 
--- b is added to share 1 mod q; the floors of x_i·2^(α+1)/q mod 2^(α+1+ρ), n − 1 added to the first and shifted by α + 1, are e_i; share i is
--- x_i − q·e_i mod 2^ρ·q; and b is taken from share 1
+-- b is added to the first share mod q; the floors of x_i·2^(α+1)/q mod 2^(α+1+ρ), n − 1 added to the first and shifted by α + 1, are e_i; share i is
+-- x_i − q·e_i mod 2^ρ·q; and b is taken from the first share
 unfoldable pub widen : Bounds → List ℕ → Draws (List ℕ)
 widen k xs =
     let t : ℕ = widenShift (length xs) in
