@@ -18,9 +18,10 @@ use Rattle.tape.specs.declared.Cursor.{Cursor}
 use Rattle.tape.specs.Tape.{ended, ran}
 use Rattle.draws.specs.Draws.{next, run}
 use Rattle.draws.proofs.RunLaws.{run-bind, run-done, part-ran, part-ended, bind-parts}
-use Rattle.shares.specs.Sharing.{arithmetic, value, addToFirst}
+use Rattle.shares.specs.Sharing.{arithmetic, value}
 use Rattle.shares.specs.Refresh.{refresh}
-use Rattle.shares.proofs.FirstLaws.{added-take, added-words, taken-take, taken-words}
+use Rattle.first.specs.First.{addToFirst}
+use Rattle.first.proofs.FirstLaws.{added-take, added-words, taken-take, taken-words}
 use Rattle.switching.specs.Switching.{carries}
 use Rattle.decompose.specs.Decompose.{highShift, highShares, highPart, lowShares}
 

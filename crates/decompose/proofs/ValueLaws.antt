@@ -16,11 +16,12 @@ use Rattle.params.specs.Laws.{Laws}
 use Rattle.params.proofs.RoomLaws.{half-least, half-below, multiple-below}
 use Rattle.draws.proofs.Outcomes.{Gives}
 use Rattle.draws.proofs.PlanLaws.{gives-bind, gives-map}
-use Rattle.shares.specs.Sharing.{arithmetic, value, addToFirst}
+use Rattle.shares.specs.Sharing.{arithmetic, value}
 use Rattle.shares.specs.Refresh.{refresh, refreshPlan}
 use Rattle.shares.proofs.SharingLaws.{Shares, value-below}
-use Rattle.shares.proofs.FirstLaws.{added-first, taken-first}
 use Rattle.shares.proofs.RefreshLaws.{refresh-keeps}
+use Rattle.first.specs.First.{addToFirst}
+use Rattle.first.proofs.FirstLaws.{added-first, taken-first}
 use Rattle.switching.proofs.CarryLaws.{Carried, carries-give}
 use Rattle.gate.specs.Told.{Outcome}
 use Rattle.decompose.specs.Decompose.{highShift, highShares, highPart, highPlan, lowShares, decompose}

@@ -6,8 +6,9 @@ use Rattle.numbers.specs.Modulo.{q}
 use Rattle.numbers.specs.Bits.{alpha}
 use Rattle.params.specs.declared.Params.{Params}
 use Rattle.draws.specs.Draws.{Draws, done, bind}
-use Rattle.shares.specs.Sharing.{arithmetic, value, addToFirst, takeFromFirst}
+use Rattle.shares.specs.Sharing.{arithmetic, value}
 use Rattle.shares.specs.Refresh.{refresh, refreshPlan}
+use Rattle.first.specs.First.{addToFirst, takeFromFirst}
 use Rattle.shift.specs.Shift.{shiftPlan}
 use Rattle.switching.specs.Switching.{carries}
 use Rattle.gate.specs.Told.{Outcome}

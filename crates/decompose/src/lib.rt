@@ -1,10 +1,10 @@
 // Decompose of shares modulo q: the high part is opened, the low part stays shared.
+use first::add_to_first;
+use first::take_from_first;
+use opening::opened;
 use params::Params;
 use shares::Shared;
-use shares::add_to_first;
 use shares::close;
-use shares::opened;
-use shares::take_from_first;
 use switching::carries_by_q;
 use tape::Cursor;
 use words::alpha;

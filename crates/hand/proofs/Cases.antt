@@ -9,8 +9,9 @@ use Rattle.params.specs.Sets.{setOf, known, paramsOf}
 use Rattle.tape.specs.Tape.{lowBits, drawFrom, drawAt}
 use Rattle.draws.specs.Draws.{after, next, run, bind, turns, each}
 use Rattle.draws.specs.Plan.{drawAll}
-use Rattle.shares.specs.Sharing.{addToFirst, takeFromFirst, move, negated}
+use Rattle.shares.specs.Sharing.{move, negated}
 use Rattle.shares.specs.Refresh.{turn, refresh}
+use Rattle.first.specs.First.{addToFirst, takeFromFirst}
 use Rattle.halving.specs.Halving.{join, joinTurn, sharedParity, less, moveParity, evened, halves, halving}
 use Rattle.shift.specs.Shift.{shift}
 use Rattle.shift.specs.ToBoolean.{withBit, bitsFrom, toBoolean}

@@ -7,8 +7,9 @@ use Rattle.numbers.specs.Lists.{fold, sum, change, along, over}
 use Rattle.params.specs.Sets.{setOf, ofKind, known, paramsOf}
 use Rattle.tape.specs.Tape.{lowBits, drawFrom, drawAt}
 use Rattle.draws.specs.Draws.{after, next, run, bind, turns, each}
-use Rattle.shares.specs.Sharing.{addToFirst, takeFromFirst, negated, move}
+use Rattle.shares.specs.Sharing.{negated, move}
 use Rattle.shares.specs.Refresh.{turn, refresh, refreshPlan}
+use Rattle.first.specs.First.{addToFirst, takeFromFirst}
 use Rattle.halving.specs.Halving.{join, joinTurn, sharedParity, less, moveParity, evened, halves, halving, halvingPlan}
 use Rattle.shift.specs.Shift.{shift, shiftPlan}
 use Rattle.switching.specs.Switching.{floors, raised, raisedShift, carries, without}

@@ -17,8 +17,8 @@ use Rattle.draws.proofs.PlanLaws.{gives-bind, gives-as, gives-all, fits-words}
 use Rattle.shares.specs.Sharing.{arithmetic}
 use Rattle.shares.specs.Refresh.{refresh, refreshPlan}
 use Rattle.shares.proofs.SharingLaws.{Shares}
-use Rattle.shares.proofs.FirstLaws.{taken-first}
 use Rattle.shares.proofs.RefreshLaws.{refresh-keeps}
+use Rattle.first.proofs.FirstLaws.{taken-first}
 use Rattle.switching.specs.ToModulus.{toModulusPlan}
 use Rattle.switching.proofs.ValueLaws.{to-modulus-keeps}
 use Rattle.sample.specs.Sampling.{lowered, maskPlan, masked, coefficient, coefficientPlan}

@@ -6,8 +6,9 @@ use Rattle.numbers.specs.Modulo.{q}
 use Rattle.params.specs.declared.Params.{Params}
 use Rattle.draws.specs.Draws.{Draws, bind}
 use Rattle.draws.specs.Plan.{drawAll}
-use Rattle.shares.specs.Sharing.{arithmetic, takeFromFirst}
+use Rattle.shares.specs.Sharing.{arithmetic}
 use Rattle.shares.specs.Refresh.{refresh, refreshPlan}
+use Rattle.first.specs.First.{takeFromFirst}
 use Rattle.switching.specs.ToModulus.{toModulus, toModulusPlan}
 
 -- γ1 − 1 taken from the first share

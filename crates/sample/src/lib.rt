@@ -1,8 +1,8 @@
 // Sampling of a mask in shares: one coefficient.
+use first::take_from_first;
 use params::Params;
 use shares::Shared;
 use shares::refresh;
-use shares::take_from_first;
 use switching::to_modulus;
 use tape::Cursor;
 use tape::Draw;

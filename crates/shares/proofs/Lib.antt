@@ -1,8 +1,6 @@
 pub mod SharingLaws
 pub mod MoveLaws
-pub mod FirstLaws
 pub mod NegatedLaws
-pub mod OpeningLaws
 pub mod ArraysLaws
 pub mod LoopLaws
 pub mod TurnLaws

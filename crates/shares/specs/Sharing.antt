@@ -28,13 +28,6 @@ abbrev pub minus : Sharing → ℕ → ℕ → ℕ
 minus (arithmetic M) = subMod M
 minus (boolean k) = xor
 
--- r added to the first share, and taken from it
-unfoldable pub addToFirst : Sharing → ℕ → List ℕ → List ℕ
-addToFirst s r xs = change (λ x. plus s x r) 0 xs
-
-unfoldable pub takeFromFirst : Sharing → ℕ → List ℕ → List ℕ
-takeFromFirst s r xs = change (λ x. minus s x r) 0 xs
-
 -- all shares of an arithmetic sharing negated
 unfoldable pub negated : ℕ → List ℕ → List ℕ
 negated M xs = along (λ i x. negMod M x) xs

@@ -1,17 +1,12 @@
-// Shares in small arrays by value, n beside them: the first share changed, both refreshes and what closes with them, the opening.
+// Shares in small arrays by value, n beside them: both refreshes, and what closes with them.
 mod arithmetic;
 mod boolean;
 mod closing;
-mod first;
-mod opening;
 
 pub use arithmetic::refresh;
 pub use boolean::refresh_boolean;
 pub use closing::close;
 pub use closing::close_boolean;
-pub use first::add_to_first;
-pub use first::take_from_first;
-pub use opening::opened;
 use params::Params;
 use tape::Cursor;
 ghost use mathlib.Core.Path.{_≡_};

@@ -17,8 +17,9 @@ use Rattle.numbers.proofs.SumLaws.{Between, floors-between, sum-back, sum-scale
 use Rattle.draws.specs.Draws.{done, bind}
 use Rattle.draws.proofs.Outcomes.{Gives}
 use Rattle.draws.proofs.PlanLaws.{gives-map}
-use Rattle.shares.specs.Sharing.{arithmetic, addToFirst}
+use Rattle.shares.specs.Sharing.{arithmetic}
 use Rattle.shares.proofs.SharingLaws.{Shares}
+use Rattle.first.specs.First.{addToFirst}
 use Rattle.shift.specs.Shift.{shift, shiftPlan}
 use Rattle.shift.proofs.FloorLaws.{shift-floor}
 use Rattle.switching.specs.Switching.{floors, raised, raisedShift, carries, without}

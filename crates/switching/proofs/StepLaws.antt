@@ -14,9 +14,10 @@ use Rattle.numbers.proofs.GroupLaws.{sub-only, sub-small}
 use Rattle.numbers.proofs.WordsLaws.{words-take}
 use Rattle.numbers.proofs.AlongLaws.{along-is, along-same, take-along, words-along, Along, along-start, along-more, along-below}
 use Rattle.shares.specs.Arrays.{Held}
-use Rattle.shares.specs.Sharing.{arithmetic, addToFirst}
+use Rattle.shares.specs.Sharing.{arithmetic}
 use Rattle.shares.proofs.ArraysLaws.{held-below, held-of}
-use Rattle.shares.proofs.FirstLaws.{added-take, added-words}
+use Rattle.first.specs.First.{addToFirst}
+use Rattle.first.proofs.FirstLaws.{added-take, added-words}
 use Rattle.switching.specs.Switching.{floors, raised, without}
 
 -- ---- x − 2^k·e mod m, as x + 2^k·(m − e)

@@ -5,7 +5,8 @@ use lib.ListN.{length, getD}
 use Rattle.numbers.specs.Modulo.{subMod}
 use Rattle.numbers.specs.Lists.{along}
 use Rattle.draws.specs.Draws.{Draws}
-use Rattle.shares.specs.Sharing.{arithmetic, addToFirst}
+use Rattle.shares.specs.Sharing.{arithmetic}
+use Rattle.first.specs.First.{addToFirst}
 use Rattle.shift.specs.Shift.{shift}
 
 -- floor(x·c/p) mod M, of each share x

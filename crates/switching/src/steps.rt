@@ -1,7 +1,7 @@
 // The steps of modulus switching. The maps go over all eight words.
+use first::add_to_first;
 use params::Params;
 use shares::Shared;
-use shares::add_to_first;
 use shift::shift_by;
 use tape::Cursor;
 use words::power;

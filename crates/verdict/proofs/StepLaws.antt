@@ -11,11 +11,12 @@ use Rattle.tape.specs.declared.Cursor.{Cursor}
 use Rattle.tape.specs.Tape.{ended, ran}
 use Rattle.draws.specs.Draws.{bind, run}
 use Rattle.draws.proofs.RunLaws.{bind-ran, bind-ended}
-use Rattle.shares.specs.Sharing.{arithmetic, takeFromFirst, negated}
+use Rattle.shares.specs.Sharing.{arithmetic, negated}
 use Rattle.shares.specs.Refresh.{refresh}
 use Rattle.shares.specs.Arrays.{Held}
 use Rattle.shares.proofs.ArraysLaws.{held-of}
-use Rattle.shares.proofs.FirstLaws.{taken-words}
+use Rattle.first.specs.First.{takeFromFirst}
+use Rattle.first.proofs.FirstLaws.{taken-words}
 use Rattle.widening.specs.Widening.{wide, widened, widen}
 use Rattle.widening.proofs.StepLaws.{wide-least}
 use Rattle.product.specs.Product.{product}

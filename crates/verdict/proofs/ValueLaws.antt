@@ -23,11 +23,12 @@ use Rattle.draws.specs.Draws.{Draws, done, bind}
 use Rattle.draws.proofs.Outcomes.{Gives, feed, Fits}
 use Rattle.draws.proofs.PlanLaws.{gives-bind, gives-map, gives-as, always-feed, feed-bind, feed-map, FitBoth}
 use Rattle.draws.proofs.RunLaws.{bind-assoc}
-use Rattle.shares.specs.Sharing.{arithmetic, value, takeFromFirst, negated}
+use Rattle.shares.specs.Sharing.{arithmetic, value, negated}
 use Rattle.shares.proofs.SharingLaws.{Shares, value-below}
-use Rattle.shares.proofs.FirstLaws.{taken-first}
 use Rattle.shares.proofs.NegatedLaws.{negated-value}
 use Rattle.shares.proofs.RefreshLaws.{refresh-keeps}
+use Rattle.first.specs.First.{takeFromFirst}
+use Rattle.first.proofs.FirstLaws.{taken-first}
 use Rattle.shift.specs.Shift.{shiftPlan}
 use Rattle.shift.proofs.FloorLaws.{shift-floor}
 use Rattle.gate.specs.Told.{Outcome}

@@ -6,8 +6,9 @@ use Rattle.numbers.specs.Tests.{pick}
 use Rattle.numbers.specs.Modulo.{q}
 use Rattle.params.specs.declared.Bounds.{Bounds}
 use Rattle.draws.specs.Draws.{Draws, done, bind}
-use Rattle.shares.specs.Sharing.{arithmetic, value, takeFromFirst, negated}
+use Rattle.shares.specs.Sharing.{arithmetic, value, negated}
 use Rattle.shares.specs.Refresh.{refresh, refreshPlan}
+use Rattle.first.specs.First.{takeFromFirst}
 use Rattle.shift.specs.Shift.{shift, shiftPlan}
 use Rattle.gate.specs.Told.{Outcome}
 use Rattle.widening.specs.Widening.{wide, widened, widen, widenPlan}

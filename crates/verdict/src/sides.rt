@@ -1,10 +1,10 @@
 // The two sides of widened shares, and their product.
+use first::take_from_first;
 use params::Bounds;
 use params::Params;
 use product::product;
 use shares::Shared;
 use shares::refresh;
-use shares::take_from_first;
 use shift::shift_by;
 use tape::Cursor;
 use widening::wide;

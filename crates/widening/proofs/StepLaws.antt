@@ -18,8 +18,9 @@ use Rattle.tape.specs.declared.Cursor.{Cursor}
 use Rattle.tape.specs.Tape.{ended, ran}
 use Rattle.draws.specs.Draws.{done, bind, run}
 use Rattle.draws.proofs.RunLaws.{run-done, part-ran, part-ended}
-use Rattle.shares.specs.Sharing.{arithmetic, addToFirst, takeFromFirst}
-use Rattle.shares.proofs.FirstLaws.{added-take, added-words, taken-take, taken-words}
+use Rattle.shares.specs.Sharing.{arithmetic}
+use Rattle.first.specs.First.{addToFirst, takeFromFirst}
+use Rattle.first.proofs.FirstLaws.{added-take, added-words, taken-take, taken-words}
 use Rattle.switching.specs.Switching.{carries, without}
 use Rattle.widening.specs.Widening.{wide, widened, widenShift, widen}
 

@@ -21,9 +21,10 @@ use Rattle.draws.specs.Draws.{Draws, done, bind}
 use Rattle.draws.proofs.Outcomes.{Gives}
 use Rattle.draws.proofs.PlanLaws.{gives-map}
 use Rattle.draws.proofs.RunLaws.{bind-assoc}
-use Rattle.shares.specs.Sharing.{arithmetic, value, addToFirst, takeFromFirst}
+use Rattle.shares.specs.Sharing.{arithmetic, value}
 use Rattle.shares.proofs.SharingLaws.{Shares, value-below}
-use Rattle.shares.proofs.FirstLaws.{added-first, taken-first, taken-words}
+use Rattle.first.specs.First.{addToFirst, takeFromFirst}
+use Rattle.first.proofs.FirstLaws.{added-first, taken-first, taken-words}
 use Rattle.switching.specs.Switching.{carries, without}
 use Rattle.switching.proofs.StepLaws.{without-words}
 use Rattle.switching.proofs.CarryLaws.{carries-give, switch-keeps}

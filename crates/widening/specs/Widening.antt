@@ -6,7 +6,8 @@ use Rattle.numbers.specs.Modulo.{q}
 use Rattle.numbers.specs.Bits.{alpha}
 use Rattle.params.specs.declared.Bounds.{Bounds}
 use Rattle.draws.specs.Draws.{Draws, done, bind}
-use Rattle.shares.specs.Sharing.{Sharing, arithmetic, addToFirst, takeFromFirst}
+use Rattle.shares.specs.Sharing.{Sharing, arithmetic}
+use Rattle.first.specs.First.{addToFirst, takeFromFirst}
 use Rattle.shift.specs.Shift.{shiftPlan}
 use Rattle.switching.specs.Switching.{carries, without}
 

@@ -1,9 +1,9 @@
 // Widening: shares of a small number modulo q become shares of the same number modulo 2^rho·q, which the verdict can shift.
+use first::add_to_first;
+use first::take_from_first;
 use params::Bounds;
 use params::Params;
 use shares::Shared;
-use shares::add_to_first;
-use shares::take_from_first;
 use switching::carries_by_q;
 use tape::Cursor;
 use words::alpha;

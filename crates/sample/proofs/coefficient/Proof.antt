@@ -16,7 +16,7 @@ use Rattle.shares.specs.Arrays.{Held}
 use Rattle.shares.specs.Sharing.{arithmetic}
 use Rattle.shares.specs.Refresh.{refresh}
 use Rattle.shares.proofs.ArraysLaws.{given-as, gave, stopped, cut-off}
-use Rattle.shares.proofs.FirstLaws.{taken-take, taken-words}
+use Rattle.first.proofs.FirstLaws.{taken-take, taken-words}
 use Rattle.sample.specs.Sampling.{lowered}
 use Rattle.sample.proofs.StepLaws.{drawn-ended, converted-ended, closes}
 use Rattle.sample.proofs.coefficient.Statement.{statement}

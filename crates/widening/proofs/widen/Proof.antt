@@ -11,8 +11,9 @@ use Rattle.numbers.specs.Bits.{alpha}
 use Rattle.params.proofs.RoomLaws.{alpha-most, rho-most, wraps-least, reach-below, wraps-room}
 use Rattle.draws.specs.Draws.{run}
 use Rattle.shares.specs.Arrays.{Held, Gave}
-use Rattle.shares.specs.Sharing.{arithmetic, addToFirst, takeFromFirst}
+use Rattle.shares.specs.Sharing.{arithmetic}
 use Rattle.shares.proofs.ArraysLaws.{held-of, gave, stopped, whole, cut-off}
+use Rattle.first.specs.First.{addToFirst, takeFromFirst}
 use Rattle.switching.specs.Switching.{carries, without}
 use Rattle.widening.specs.Widening.{wide, widened}
 use Rattle.widening.proofs.StepLaws.{offset-words, reach-wide, widened-words, floors-room, count-room, widen-ended, widen-ran}

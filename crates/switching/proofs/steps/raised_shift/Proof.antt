@@ -5,8 +5,9 @@ use native.Mathlib.Omega.{arith}
 use lib.ListN.{take}
 use denote.Ref.{now}
 use Rattle.draws.specs.Draws.{run}
-use Rattle.shares.specs.Sharing.{arithmetic, addToFirst}
+use Rattle.shares.specs.Sharing.{arithmetic}
 use Rattle.shares.proofs.ArraysLaws.{given-as}
+use Rattle.first.specs.First.{addToFirst}
 use Rattle.shift.specs.Shift.{shift}
 use Rattle.switching.specs.Switching.{raisedShift}
 use Rattle.switching.proofs.StepLaws.{raised-held, raised-take}

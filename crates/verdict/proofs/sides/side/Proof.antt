@@ -7,9 +7,10 @@ use denote.Ref.{now}
 use Rattle.numbers.specs.Modulo.{q}
 use Rattle.params.proofs.RoomLaws.{rho-most}
 use Rattle.draws.specs.Draws.{run}
-use Rattle.shares.specs.Sharing.{arithmetic, takeFromFirst}
+use Rattle.shares.specs.Sharing.{arithmetic}
 use Rattle.shares.proofs.ArraysLaws.{given-as}
-use Rattle.shares.proofs.FirstLaws.{taken-take}
+use Rattle.first.specs.First.{takeFromFirst}
+use Rattle.first.proofs.FirstLaws.{taken-take}
 use Rattle.shift.specs.Shift.{shift}
 use Rattle.widening.specs.Widening.{widened}
 use Rattle.verdict.specs.Verdict.{side}

@@ -5,7 +5,8 @@ use words::sub_mod;
 ghost use mathlib.Core.Path.{_≡_};
 ghost use Prim.Native.Nat.{_<_};
 ghost use Rattle.numbers.specs.Lists.{Words};
-ghost use Rattle.shares.specs.Sharing.{arithmetic, addToFirst, takeFromFirst};
+ghost use Rattle.shares.specs.Sharing.{arithmetic};
+ghost use Rattle.first.specs.First.{addToFirst, takeFromFirst};
 
 pub fn add_to_first(shares: [u32; Params::MOST], r: u32, m: u32) -> [u32; Params::MOST]
     requires { ⌜ (r < m) × Words 8 m shares ⌝ }

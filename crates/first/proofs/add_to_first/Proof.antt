@@ -4,9 +4,9 @@ use native.Mathlib.Omega.{arith}
 use lib.ListN.{set}
 use Rattle.numbers.specs.Lists.{change}
 use Rattle.numbers.proofs.WordsLaws.{words-at}
-use Rattle.shares.specs.Sharing.{addToFirst}
-use Rattle.shares.proofs.first.add_to_first.Statement.{statement}
-use Rattle.shares.proofs.first.add_to_first.Tie as tie
+use Rattle.first.proofs.add_to_first.Statement.{statement}
+use Rattle.first.proofs.add_to_first.Tie as tie
+use Rattle.first.specs.First.{addToFirst}
 
 array-read-add-mod : tie.Need-array-read-add-mod
 array-read-add-mod c = search needs

@@ -1,9 +1,9 @@
 use borrow.Author.Needs.{needs}
 use Prim.Native.Nat.{_-_}
-use Rattle.shares.proofs.OpeningLaws.{Opening, opening-start, opening-below, opening-more, opening-all}
 use Rattle.shares.proofs.ArraysLaws.{held-at}
-use Rattle.shares.proofs.opening.opened.Statement.{statement}
-use Rattle.shares.proofs.opening.opened.Tie as tie
+use Rattle.opening.proofs.OpeningLaws.{Opening, opening-start, opening-below, opening-more, opening-all}
+use Rattle.opening.proofs.opened.Statement.{statement}
+use Rattle.opening.proofs.opened.Tie as tie
 
 abbrev Inv-loop : tie.InvT-loop
 Inv-loop n m shares sum₀ i₀ sum i = Opening n m shares i sum

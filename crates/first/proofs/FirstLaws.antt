@@ -5,9 +5,10 @@ use Prim.Native.Nat.{ℕ, _<_}
 use lib.ListN.{take}
 use Rattle.numbers.specs.Lists.{Words}
 use Rattle.numbers.proofs.WordsLaws.{words-at, words-change, take-change}
-use Rattle.shares.specs.Sharing.{Sharing, bound, plus, minus, addToFirst, takeFromFirst}
+use Rattle.shares.specs.Sharing.{Sharing, bound, plus, minus}
 use Rattle.shares.proofs.SharingLaws.{Shares, group}
 use Rattle.shares.proofs.MoveLaws.{added-value, taken-value}
+use Rattle.first.specs.First.{addToFirst, takeFromFirst}
 
 module _ (s : Sharing) (r : ℕ) where
   pub added-take : (n : ℕ) (xs : List ℕ) → 0 < n → take n (addToFirst s r xs) ≡ addToFirst s r (take n xs)

@@ -4,9 +4,9 @@ use native.Mathlib.Omega.{arith}
 use lib.ListN.{set}
 use Rattle.numbers.specs.Lists.{change}
 use Rattle.numbers.proofs.WordsLaws.{words-at}
-use Rattle.shares.specs.Sharing.{takeFromFirst}
-use Rattle.shares.proofs.first.take_from_first.Statement.{statement}
-use Rattle.shares.proofs.first.take_from_first.Tie as tie
+use Rattle.first.proofs.take_from_first.Statement.{statement}
+use Rattle.first.proofs.take_from_first.Tie as tie
+use Rattle.first.specs.First.{takeFromFirst}
 
 array-read-sub-mod : tie.Need-array-read-sub-mod
 array-read-sub-mod c = search needs
