@@ -22,7 +22,7 @@ use Rattle.shares.specs.Sharing.{arithmetic, value}
 use Rattle.shares.specs.Refresh.{refresh}
 use Rattle.first.specs.First.{addToFirst}
 use Rattle.first.proofs.FirstLaws.{added-take, added-words, taken-take, taken-words}
-use Rattle.switching.specs.Switching.{carries}
+use Rattle.carries.specs.Carries.{carries}
 use Rattle.decompose.specs.Decompose.{highShift, highShares, highPart, lowShares}
 
 -- the words that are handed on, all eight

@@ -22,7 +22,7 @@ use Rattle.shares.proofs.SharingLaws.{Shares, value-below}
 use Rattle.shares.proofs.RefreshLaws.{refresh-keeps}
 use Rattle.first.specs.First.{addToFirst}
 use Rattle.first.proofs.FirstLaws.{added-first, taken-first}
-use Rattle.switching.proofs.CarryLaws.{Carried, carries-give}
+use Rattle.carries.proofs.CarryLaws.{Carried, carries-give}
 use Rattle.gate.specs.Told.{Outcome}
 use Rattle.decompose.specs.Decompose.{highShift, highShares, highPart, highPlan, lowShares, decompose}
 use Rattle.decompose.specs.Plain.{highOf, lowOf}

@@ -10,7 +10,7 @@ use Rattle.shares.specs.Sharing.{arithmetic, value}
 use Rattle.shares.specs.Refresh.{refresh, refreshPlan}
 use Rattle.first.specs.First.{addToFirst, takeFromFirst}
 use Rattle.shift.specs.Shift.{shiftPlan}
-use Rattle.switching.specs.Switching.{carries}
+use Rattle.carries.specs.Carries.{carries}
 use Rattle.gate.specs.Told.{Outcome}
 
 -- the shift, for n shares: by 23 + α

@@ -1,11 +1,11 @@
 // Decompose of shares modulo q: the high part is opened, the low part stays shared.
+use carries::carries_by_q;
 use first::add_to_first;
 use first::take_from_first;
 use opening::opened;
 use params::Params;
 use shares::Shared;
 use shares::close;
-use switching::carries_by_q;
 use tape::Cursor;
 use words::alpha;
 use words::power;

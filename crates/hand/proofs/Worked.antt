@@ -16,7 +16,7 @@ use Rattle.shift.specs.Shift.{shift}
 use Rattle.shift.specs.ToBoolean.{withBit, bitsFrom, toBoolean}
 use Rattle.psi.specs.Psi.{psi, psis, zOf, added}
 use Rattle.convert.specs.ToArithmetic.{rule, toArithmetic}
-use Rattle.switching.specs.Switching.{floors, raised, raisedShift, carries, without}
+use Rattle.carries.specs.Carries.{floors, raised, raisedShift, carries, without}
 use Rattle.switching.specs.ToModulus.{toModulus}
 use Rattle.checks.specs.Checks.{inside, allBelow, firstFailing, checksOf, checks}
 use Rattle.gate.specs.Told.{refusal, ranTold, checkNumber, told}

@@ -12,7 +12,7 @@ use Rattle.shares.specs.Refresh.{turn, refresh, refreshPlan}
 use Rattle.first.specs.First.{addToFirst, takeFromFirst}
 use Rattle.halving.specs.Halving.{join, joinTurn, sharedParity, less, moveParity, evened, halves, halving, halvingPlan}
 use Rattle.shift.specs.Shift.{shift, shiftPlan}
-use Rattle.switching.specs.Switching.{floors, raised, raisedShift, carries, without}
+use Rattle.carries.specs.Carries.{floors, raised, raisedShift, carries, without}
 use Rattle.checks.specs.Checks.{inside, allBelow, firstFailing, checksOf, checks, leaveOut}
 use Rattle.gate.specs.Told.{refusal, ranTold, checkNumber, told}
 use Rattle.gate.specs.Judge.{judgeChecks, judges}

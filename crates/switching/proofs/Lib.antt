@@ -1,4 +1,3 @@
 pub mod StepLaws
 pub mod SwitchLaws
-pub mod CarryLaws
 pub mod ValueLaws

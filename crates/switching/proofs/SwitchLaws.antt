@@ -10,7 +10,7 @@ use Rattle.tape.specs.Tape.{ended, ran}
 use Rattle.draws.specs.Draws.{Draws, done, bind, run}
 use Rattle.draws.proofs.RunLaws.{run-done, bind-ran, bind-ended, part-ran, part-ended}
 use Rattle.convert.specs.ToArithmetic.{toArithmetic}
-use Rattle.switching.specs.Switching.{carries, without}
+use Rattle.carries.specs.Carries.{carries, without}
 use Rattle.switching.specs.ToModulus.{toModulus}
 
 -- what follows the conversion mod 2^(μ + α), and the shift

@@ -19,9 +19,9 @@ use Rattle.shares.specs.Sharing.{arithmetic, boolean}
 use Rattle.shares.proofs.SharingLaws.{Shares}
 use Rattle.shift.specs.Shift.{shiftPlan}
 use Rattle.convert.proofs.ValueLaws.{to-arithmetic-keeps}
-use Rattle.switching.specs.Switching.{carries, without}
+use Rattle.carries.specs.Carries.{carries, without}
 use Rattle.switching.specs.ToModulus.{toModulus, toModulusPlan}
-use Rattle.switching.proofs.CarryLaws.{switch-keeps}
+use Rattle.carries.proofs.CarryLaws.{switch-keeps}
 
 pub to-modulus-keeps : (Q μ n v : ℕ) (xs : List ℕ) → 0 < Q → μ + alpha n ≤ 32 → 0 < n → Shares (boolean μ) n v xs → Gives (Shares (arithmetic Q) n (v % Q)) (toModulus Q μ xs) (toModulusPlan Q μ n)
 unfolding toModulus toModulusPlan xorAll

@@ -1,2 +1,1 @@
-pub mod Switching
 pub mod ToModulus

@@ -6,7 +6,7 @@ use Rattle.numbers.specs.Bits.{alpha}
 use Rattle.draws.specs.Draws.{Draws, done, bind}
 use Rattle.shift.specs.Shift.{shiftPlan}
 use Rattle.convert.specs.ToArithmetic.{toArithmetic, toArithmeticPlan}
-use Rattle.switching.specs.Switching.{carries, without}
+use Rattle.carries.specs.Carries.{carries, without}
 
 -- convert with k = μ + α; floor(x_i/2^μ) mod 2^α·Q, n - 1 added to the first, shifted by α, gives e_i; share i is x_i − 2^k·e_i mod Q
 unfoldable pub toModulus : (Q μ : ℕ) → List ℕ → Draws (List ℕ)

@@ -1,7 +1,7 @@
 // Boolean shares of width mu to arithmetic ones modulo any modulus that leaves room for alpha more bits.
 use super::steps::quotients;
-use super::steps::raised_shift;
 use super::steps::without;
+use carries::raised_shift;
 use convert::to_arithmetic;
 use params::Params;
 use shares::Shared;

@@ -21,7 +21,7 @@ use Rattle.draws.proofs.RunLaws.{run-done, part-ran, part-ended}
 use Rattle.shares.specs.Sharing.{arithmetic}
 use Rattle.first.specs.First.{addToFirst, takeFromFirst}
 use Rattle.first.proofs.FirstLaws.{added-take, added-words, taken-take, taken-words}
-use Rattle.switching.specs.Switching.{carries, without}
+use Rattle.carries.specs.Carries.{carries, without}
 use Rattle.widening.specs.Widening.{wide, widened, widenShift, widen}
 
 -- the multiple of q that is taken from a share is below the widened modulus

@@ -25,9 +25,9 @@ use Rattle.shares.specs.Sharing.{arithmetic, value}
 use Rattle.shares.proofs.SharingLaws.{Shares, value-below}
 use Rattle.first.specs.First.{addToFirst, takeFromFirst}
 use Rattle.first.proofs.FirstLaws.{added-first, taken-first, taken-words}
-use Rattle.switching.specs.Switching.{carries, without}
-use Rattle.switching.proofs.StepLaws.{without-words}
-use Rattle.switching.proofs.CarryLaws.{carries-give, switch-keeps}
+use Rattle.carries.specs.Carries.{carries, without}
+use Rattle.carries.proofs.StepLaws.{without-words}
+use Rattle.carries.proofs.CarryLaws.{carries-give, switch-keeps}
 use Rattle.widening.specs.Widening.{wide, widened, widenShift, widen, widenPlan}
 use Rattle.widening.proofs.StepLaws.{wide-least, wide-two, reach-wide}
 

@@ -9,7 +9,7 @@ use Rattle.draws.specs.Draws.{Draws, done, bind}
 use Rattle.shares.specs.Sharing.{Sharing, arithmetic}
 use Rattle.first.specs.First.{addToFirst, takeFromFirst}
 use Rattle.shift.specs.Shift.{shiftPlan}
-use Rattle.switching.specs.Switching.{carries, without}
+use Rattle.carries.specs.Carries.{carries, without}
 
 -- 2^ρ·q, and how the widened shares recombine
 abbrev pub wide : Bounds → ℕ

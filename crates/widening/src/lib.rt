@@ -1,10 +1,10 @@
 // Widening: shares of a small number modulo q become shares of the same number modulo 2^rho·q, which the verdict can shift.
+use carries::carries_by_q;
 use first::add_to_first;
 use first::take_from_first;
 use params::Bounds;
 use params::Params;
 use shares::Shared;
-use switching::carries_by_q;
 use tape::Cursor;
 use words::alpha;
 use words::power;
@@ -17,7 +17,7 @@ ghost use Rattle.numbers.specs.Lists.{Words};
 ghost use Rattle.params.specs.Laws.{KindLaws};
 ghost use Rattle.draws.specs.Draws.{run};
 ghost use Rattle.shares.specs.Arrays.{Held, Gave};
-ghost use Rattle.switching.specs.Switching.{without};
+ghost use Rattle.carries.specs.Carries.{without};
 ghost use Rattle.widening.specs.Widening.{wide, widen};
 
 // The modulus 2^rho·q of the widened shares.

@@ -14,7 +14,7 @@ use Rattle.shares.specs.Arrays.{Held, Gave}
 use Rattle.shares.specs.Sharing.{arithmetic}
 use Rattle.shares.proofs.ArraysLaws.{held-of, gave, stopped, whole, cut-off}
 use Rattle.first.specs.First.{addToFirst, takeFromFirst}
-use Rattle.switching.specs.Switching.{carries, without}
+use Rattle.carries.specs.Carries.{carries, without}
 use Rattle.widening.specs.Widening.{wide, widened}
 use Rattle.widening.proofs.StepLaws.{offset-words, reach-wide, widened-words, floors-room, count-room, widen-ended, widen-ran}
 use Rattle.widening.proofs.widen.Statement.{statement}

@@ -22,8 +22,8 @@ use Rattle.shares.proofs.SharingLaws.{Shares}
 use Rattle.first.specs.First.{addToFirst}
 use Rattle.shift.specs.Shift.{shift, shiftPlan}
 use Rattle.shift.proofs.FloorLaws.{shift-floor}
-use Rattle.switching.specs.Switching.{floors, raised, raisedShift, carries, without}
-use Rattle.switching.proofs.StepLaws.{without-words}
+use Rattle.carries.specs.Carries.{floors, raised, raisedShift, carries, without}
+use Rattle.carries.proofs.StepLaws.{without-words}
 
 -- ---- the floors, raised
 sum-floors : (M c p : ℕ) (xs : List ℕ) → Cong M (sum (floors M c p xs)) (sum (along (λ i x. x * c / p) xs))

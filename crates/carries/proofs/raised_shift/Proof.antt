@@ -9,10 +9,10 @@ use Rattle.shares.specs.Sharing.{arithmetic}
 use Rattle.shares.proofs.ArraysLaws.{given-as}
 use Rattle.first.specs.First.{addToFirst}
 use Rattle.shift.specs.Shift.{shift}
-use Rattle.switching.specs.Switching.{raisedShift}
-use Rattle.switching.proofs.StepLaws.{raised-held, raised-take}
-use Rattle.switching.proofs.steps.raised_shift.Statement.{statement}
-use Rattle.switching.proofs.steps.raised_shift.Tie as tie
+use Rattle.carries.specs.Carries.{raisedShift}
+use Rattle.carries.proofs.StepLaws.{raised-held, raised-take}
+use Rattle.carries.proofs.raised_shift.Statement.{statement}
+use Rattle.carries.proofs.raised_shift.Tie as tie
 
 first : (c : tie.After-add-to-first) →
     let a = c .before .before .before .args in

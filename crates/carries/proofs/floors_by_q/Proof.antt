@@ -4,8 +4,8 @@ use native.Mathlib.Omega.{arith}
 use Rattle.numbers.specs.Modulo.{q}
 use Rattle.numbers.proofs.WordsLaws.{words-at}
 use Rattle.numbers.proofs.AlongLaws.{Along, along-start, along-read, along-more, along-all}
-use Rattle.switching.proofs.steps.floors_by_q.Statement.{statement}
-use Rattle.switching.proofs.steps.floors_by_q.Tie as tie
+use Rattle.carries.proofs.floors_by_q.Statement.{statement}
+use Rattle.carries.proofs.floors_by_q.Tie as tie
 
 abbrev Inv-loop : tie.InvT-loop
 Inv-loop c words₀ i₀ words i = Along 8 (λ j x. x * c / q) words₀ i words

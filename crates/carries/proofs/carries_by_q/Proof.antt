@@ -6,10 +6,10 @@ use denote.Ref.{now}
 use Rattle.numbers.specs.Modulo.{q}
 use Rattle.draws.specs.Draws.{run}
 use Rattle.shares.proofs.ArraysLaws.{given-as}
-use Rattle.switching.specs.Switching.{raisedShift, carries}
-use Rattle.switching.proofs.StepLaws.{floors-held, floors-take, scaled-small}
-use Rattle.switching.proofs.steps.carries_by_q.Statement.{statement}
-use Rattle.switching.proofs.steps.carries_by_q.Tie as tie
+use Rattle.carries.specs.Carries.{raisedShift, carries}
+use Rattle.carries.proofs.StepLaws.{floors-held, floors-take, scaled-small}
+use Rattle.carries.proofs.carries_by_q.Statement.{statement}
+use Rattle.carries.proofs.carries_by_q.Tie as tie
 
 two : (s : tie.Start) → 2 ≤ 2 ^ s .args .t * s .args .m
 two s = omega (arith, s .pre .3, s .pre .5 .least)

@@ -3,9 +3,9 @@ use Prim.Native.Nat.{_*_, _/_, _^_, _<_}
 use native.Mathlib.Omega.{arith}
 use native.Mathlib.Nat.{le-of-lt}
 use Rattle.numbers.specs.Modulo.{q}
-use Rattle.switching.proofs.StepLaws.{scaled-small, scaled-fits}
-use Rattle.switching.proofs.steps.floor_by_q.Statement.{statement}
-use Rattle.switching.proofs.steps.floor_by_q.Tie as tie
+use Rattle.carries.proofs.StepLaws.{scaled-small, scaled-fits}
+use Rattle.carries.proofs.floor_by_q.Statement.{statement}
+use Rattle.carries.proofs.floor_by_q.Tie as tie
 
 product : (c : tie.Start) → c .args .x * c .args .c < 2 ^ 64
 product c = scaled-fits (c .pre) (search needs)
