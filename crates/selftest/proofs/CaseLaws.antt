@@ -42,7 +42,8 @@ use Rattle.conversions.specs.Convert.{toArithmeticGadget}
 use Rattle.widens.specs.Widen.{kindRange}
 use Rattle.decomposes.specs.Decompose.{decomposeGadget}
 use Rattle.judges.specs.Verdict.{verdictGadget}
-use Rattle.selftest.specs.Held.{sevens, smallTape, held, sharesShown, partsShown, verdictShown}
+use Rattle.held.specs.Held.{sevens, held, sharesShown, partsShown, verdictShown}
+use Rattle.selftest.specs.SmallTape.{smallTape}
 
 -- a test that is true is not left by its false side
 pub never : {b c : Bool} {x y : ℕ} → b ≡ c → c ≡ true → not b ≡ true → x ≡ y

@@ -1,2 +1,2 @@
-mod HeldLaws
+mod TestLaws
 mod CaseLaws

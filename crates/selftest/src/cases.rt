@@ -1,12 +1,12 @@
-// The cases by hand of document 01, in its order, Each function answers 0, or the number of its first case that
+// The cases by hand of document 01, in its order. Each function answers 0, or the number of its first case that
 // came out wrong.
-use super::held::decompose_gives;
-use super::held::refresh_gives;
-use super::held::sample_gives;
-use super::held::shift_gives;
-use super::held::to_arithmetic_gives;
-use super::held::to_boolean_gives;
-use super::held::verdict_gives;
+use held::decompose_gives;
+use held::refresh_gives;
+use held::sample_gives;
+use held::shift_gives;
+use held::to_arithmetic_gives;
+use held::to_boolean_gives;
+use held::verdict_gives;
 use params::Params;
 ghost use mathlib.Core.Path.{_≡_};
 ghost use mathlib.Core.List.{[], _∷_};
@@ -16,7 +16,8 @@ ghost use Rattle.gate.specs.Gadget.{tells};
 ghost use Rattle.gate.specs.Judge.{judges};
 ghost use Rattle.decomposes.specs.Decompose.{decomposeGadget};
 ghost use Rattle.judges.specs.Verdict.{verdictGadget};
-ghost use Rattle.selftest.specs.Held.{sevens, smallTape, held, partsShown, verdictShown};
+ghost use Rattle.held.specs.Held.{sevens, held, partsShown, verdictShown};
+ghost use Rattle.selftest.specs.SmallTape.{smallTape};
 
 // Words that no draw skips, for the cases in shares.
 fn small_tape() -> [u32; 26]

@@ -1,7 +1,6 @@
 // The self test: the cases by hand of document 01, run through the public gadgets, so that a device can tell at power-on that its build and
 // its processor keep to them.
 mod cases;
-mod held;
 
 use cases::bounds;
 use cases::conversions;

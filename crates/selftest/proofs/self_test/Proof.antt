@@ -1,7 +1,7 @@
 use borrow.Author.Needs.{needs}
 use Rattle.selftest.proofs.self_test.Statement.{statement}
 use Rattle.selftest.proofs.self_test.Tie as tie
-use Rattle.selftest.proofs.HeldLaws.{none-wrong}
+use Rattle.selftest.proofs.TestLaws.{none-wrong}
 
 draws-requires : tie.Need-draws-requires
 draws-requires c κs = search needs

@@ -1,7 +1,7 @@
 use borrow.Author.Needs.{needs}
 use Rattle.selftest.proofs.cases.bound_at.Statement.{statement}
 use Rattle.selftest.proofs.cases.bound_at.Tie as tie
-use Rattle.selftest.proofs.HeldLaws.{first-fails, second-tells}
+use Rattle.selftest.proofs.TestLaws.{first-fails, second-tells}
 
 judges-requires : tie.Need-judges-requires
 judges-requires c κs = search needs

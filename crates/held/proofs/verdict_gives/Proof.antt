@@ -1,10 +1,10 @@
 use borrow.Author.Needs.{needs}
-use Rattle.selftest.proofs.held.verdict_gives.Statement.{statement}
-use Rattle.selftest.proofs.held.verdict_gives.Tie as tie
+use Rattle.held.proofs.verdict_gives.Statement.{statement}
+use Rattle.held.proofs.verdict_gives.Tie as tie
 use mathlib.Core.Path.{ap, _∙_}
 use Rattle.gate.specs.Told.{Told}
 use Rattle.judges.specs.Answers.{judgedStandsFor}
-use Rattle.selftest.specs.Held.{held, verdictShown}
+use Rattle.held.specs.Held.{held, verdictShown}
 
 verdict-requires : tie.Need-verdict-requires
 verdict-requires c κs = search needs

@@ -1,9 +1,9 @@
 use borrow.Author.Needs.{needs}
-use Rattle.selftest.proofs.held.refresh_gives.Statement.{statement}
-use Rattle.selftest.proofs.held.refresh_gives.Tie as tie
+use Rattle.held.proofs.refresh_gives.Statement.{statement}
+use Rattle.held.proofs.refresh_gives.Tie as tie
 use mathlib.Core.Path.{ap, _∙_}
 use Rattle.gate.specs.Told.{Told, standsFor}
-use Rattle.selftest.specs.Held.{held, sharesShown}
+use Rattle.held.specs.Held.{held, sharesShown}
 
 slice-aggregate-refresh : tie.Need-slice-aggregate-refresh
 slice-aggregate-refresh c = search needs

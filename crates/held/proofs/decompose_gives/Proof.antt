@@ -1,8 +1,8 @@
 use mathlib.Core.Path.{_∙_}
 use borrow.Author.Needs.{needs}
-use Rattle.selftest.proofs.held.decompose_gives.Statement.{statement}
-use Rattle.selftest.proofs.held.decompose_gives.Tie as tie
-use Rattle.selftest.proofs.HeldLaws.{parts-held}
+use Rattle.held.proofs.decompose_gives.Statement.{statement}
+use Rattle.held.proofs.decompose_gives.Tie as tie
+use Rattle.held.proofs.HeldLaws.{parts-held}
 
 slice-aggregate-decompose : tie.Need-slice-aggregate-decompose
 slice-aggregate-decompose c = search needs

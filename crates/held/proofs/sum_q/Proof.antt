@@ -1,6 +1,6 @@
 use borrow.Author.Needs.{needs}
-use Rattle.selftest.proofs.held.sum_q.Statement.{statement}
-use Rattle.selftest.proofs.held.sum_q.Tie as tie
+use Rattle.held.proofs.sum_q.Statement.{statement}
+use Rattle.held.proofs.sum_q.Tie as tie
 use Rattle.numbers.specs.Modulo.{addMod}
 
 add-reduce-q : tie.Need-add-reduce-q

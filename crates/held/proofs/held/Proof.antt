@@ -1,8 +1,8 @@
 use borrow.Author.Needs.{needs}
-use Rattle.selftest.proofs.held.held.Statement.{statement}
-use Rattle.selftest.proofs.held.held.Tie as tie
+use Rattle.held.proofs.held.Statement.{statement}
+use Rattle.held.proofs.held.Tie as tie
 use borrow.Author.Tests.{eq-eqb, ne-eqb}
-use Rattle.selftest.specs.Held.{held}
+use Rattle.held.specs.Held.{held}
 
 array-read-if1 : tie.Need-array-read-if1
 array-read-if1 c = search needs

@@ -1,9 +1,9 @@
 use borrow.Author.Needs.{needs}
-use Rattle.selftest.proofs.held.to_boolean_gives.Statement.{statement}
-use Rattle.selftest.proofs.held.to_boolean_gives.Tie as tie
+use Rattle.held.proofs.to_boolean_gives.Statement.{statement}
+use Rattle.held.proofs.to_boolean_gives.Tie as tie
 use mathlib.Core.Path.{ap, _∙_}
 use Rattle.gate.specs.Told.{Told, standsFor}
-use Rattle.selftest.specs.Held.{held, sharesShown}
+use Rattle.held.specs.Held.{held, sharesShown}
 
 slice-aggregate-to-boolean : tie.Need-slice-aggregate-to-boolean
 slice-aggregate-to-boolean c = search needs

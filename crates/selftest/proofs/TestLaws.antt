@@ -1,0 +1,17 @@
+-- Two tests of which the second is made only where the first is true.
+use mathlib.Core.Path.{_≡_, sym, ap, _∙_}
+use mathlib.Core.Bool.{Bool, true, false, not}
+use Prim.Native.Nat.{ℕ}
+use lib.Dec.{eqb}
+use borrow.Author.Tests.{not-true, not-false}
+use Rattle.numbers.specs.Tests.{both, pick}
+
+pub first-fails : {b c : Bool} → (d : Bool) → b ≡ c → not b ≡ true → false ≡ both c d
+first-fails {b} d e n = ap (λ (x : Bool). both x d) (sym (not-true b n) ∙ e)
+
+pub second-tells : {b c d e : Bool} → b ≡ c → not b ≡ false → e ≡ d → e ≡ both c d
+second-tells {b} {c} {d} e n s = s ∙ ap (λ (x : Bool). both x d) (sym (not-false b n) ∙ e)
+
+-- of two numbers that are 0 the first that is not is none
+pub none-wrong : {a b r : ℕ} → a ≡ 0 → b ≡ 0 → r ≡ pick (eqb a 0) b a → r ≡ 0
+none-wrong {a} {b} e f g = g ∙ (ap (λ (x : ℕ). pick (eqb x 0) b x) e ∙ f)
