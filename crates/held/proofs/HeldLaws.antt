@@ -7,7 +7,7 @@ use Rattle.numbers.specs.Modulo.{q, addMod}
 use Rattle.gate.specs.Told.{Told}
 use Rattle.decomposes.specs.declared.Decomposed.{Decomposed}
 use Rattle.decomposes.specs.Answers.{partsStandFor}
-use Rattle.held.specs.Held.{held, partsShown}
+use Rattle.passing.specs.Held.{held, partsShown}
 
 pub parts-held :
     (w out : List ℕ) (r : Decomposed) (low : ℕ) {t : Told} →

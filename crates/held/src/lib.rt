@@ -19,7 +19,7 @@ ghost use Rattle.conversions.specs.Convert.{toArithmeticGadget};
 ghost use Rattle.samplers.specs.Samplers.{sampler};
 ghost use Rattle.decomposes.specs.Decompose.{decomposeGadget};
 ghost use Rattle.judges.specs.Verdict.{verdictGadget};
-ghost use Rattle.held.specs.Held.{sevens, held, sharesShown, partsShown, verdictShown};
+ghost use Rattle.passing.specs.Held.{sevens, held, sharesShown, partsShown, verdictShown};
 
 fn held(wanted: [u32; 4], number: u32, used: usize, third: u32, fourth: u32) -> bool
     ensures { λ r. ⌜ r ≡ held wanted (number ∷ used ∷ third ∷ fourth ∷ []) ⌝ }

@@ -1,2 +1,1 @@
 mod TestLaws
-mod CaseLaws

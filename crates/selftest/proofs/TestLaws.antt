@@ -1,10 +1,14 @@
--- Two tests of which the second is made only where the first is true.
+-- A test that passes; and two, of which the second is made only where the first is true.
 use mathlib.Core.Path.{_≡_, sym, ap, _∙_}
 use mathlib.Core.Bool.{Bool, true, false, not}
 use Prim.Native.Nat.{ℕ}
 use lib.Dec.{eqb}
 use borrow.Author.Tests.{not-true, not-false}
 use Rattle.numbers.specs.Tests.{both, pick}
+
+-- a test that is true is not left by its false side
+pub never : {b c : Bool} {x y : ℕ} → b ≡ c → c ≡ true → not b ≡ true → x ≡ y
+never {b} {c} e t n = search (sym (not-true b n) ∙ (e ∙ t))
 
 pub first-fails : {b c : Bool} → (d : Bool) → b ≡ c → not b ≡ true → false ≡ both c d
 first-fails {b} d e n = ap (λ (x : Bool). both x d) (sym (not-true b n) ∙ e)

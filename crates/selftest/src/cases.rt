@@ -16,8 +16,7 @@ ghost use Rattle.gate.specs.Gadget.{tells};
 ghost use Rattle.gate.specs.Judge.{judges};
 ghost use Rattle.decomposes.specs.Decompose.{decomposeGadget};
 ghost use Rattle.judges.specs.Verdict.{verdictGadget};
-ghost use Rattle.held.specs.Held.{sevens, held, partsShown, verdictShown};
-ghost use Rattle.selftest.specs.SmallTape.{smallTape};
+ghost use Rattle.passing.specs.Held.{sevens, smallTape, held, partsShown, verdictShown};
 
 // Words that no draw skips, for the cases in shares.
 fn small_tape() -> [u32; 26]

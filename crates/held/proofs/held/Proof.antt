@@ -2,7 +2,7 @@ use borrow.Author.Needs.{needs}
 use Rattle.held.proofs.held.Statement.{statement}
 use Rattle.held.proofs.held.Tie as tie
 use borrow.Author.Tests.{eq-eqb, ne-eqb}
-use Rattle.held.specs.Held.{held}
+use Rattle.passing.specs.Held.{held}
 
 array-read-if1 : tie.Need-array-read-if1
 array-read-if1 c = search needs

@@ -3,7 +3,7 @@ use Rattle.held.proofs.refresh_gives.Statement.{statement}
 use Rattle.held.proofs.refresh_gives.Tie as tie
 use mathlib.Core.Path.{ap, _∙_}
 use Rattle.gate.specs.Told.{Told, standsFor}
-use Rattle.held.specs.Held.{held, sharesShown}
+use Rattle.passing.specs.Held.{held, sharesShown}
 
 slice-aggregate-refresh : tie.Need-slice-aggregate-refresh
 slice-aggregate-refresh c = search needs

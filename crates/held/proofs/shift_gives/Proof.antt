@@ -3,7 +3,7 @@ use Rattle.held.proofs.shift_gives.Statement.{statement}
 use Rattle.held.proofs.shift_gives.Tie as tie
 use mathlib.Core.Path.{ap, _∙_}
 use Rattle.gate.specs.Told.{Told, standsFor}
-use Rattle.held.specs.Held.{held, sharesShown}
+use Rattle.passing.specs.Held.{held, sharesShown}
 
 slice-aggregate-shift : tie.Need-slice-aggregate-shift
 slice-aggregate-shift c = search needs

@@ -4,7 +4,7 @@ use Rattle.held.proofs.verdict_gives.Tie as tie
 use mathlib.Core.Path.{ap, _∙_}
 use Rattle.gate.specs.Told.{Told}
 use Rattle.judges.specs.Answers.{judgedStandsFor}
-use Rattle.held.specs.Held.{held, verdictShown}
+use Rattle.passing.specs.Held.{held, verdictShown}
 
 verdict-requires : tie.Need-verdict-requires
 verdict-requires c κs = search needs

@@ -1,7 +1,8 @@
 use borrow.Author.Needs.{needs}
 use Rattle.selftest.proofs.cases.bounds.Statement.{statement}
 use Rattle.selftest.proofs.cases.bounds.Tie as tie
-use Rattle.selftest.proofs.CaseLaws.{never, passing}
+use Rattle.passing.proofs.CaseLaws.{passing}
+use Rattle.selftest.proofs.TestLaws.{never}
 
 bound-at-requires : tie.Need-bound-at-requires
 bound-at-requires c κs = search needs

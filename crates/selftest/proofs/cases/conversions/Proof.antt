@@ -1,7 +1,8 @@
 use borrow.Author.Needs.{needs}
 use Rattle.selftest.proofs.cases.conversions.Statement.{statement}
 use Rattle.selftest.proofs.cases.conversions.Tie as tie
-use Rattle.selftest.proofs.CaseLaws.{never, passing}
+use Rattle.passing.proofs.CaseLaws.{passing}
+use Rattle.selftest.proofs.TestLaws.{never}
 
 slice-aggregate-to-arithmetic-gives : tie.Need-slice-aggregate-to-arithmetic-gives
 slice-aggregate-to-arithmetic-gives c = search needs

@@ -1,7 +1,8 @@
 use borrow.Author.Needs.{needs}
 use Rattle.selftest.proofs.cases.counts.Statement.{statement}
 use Rattle.selftest.proofs.cases.counts.Tie as tie
-use Rattle.selftest.proofs.CaseLaws.{never, passing}
+use Rattle.passing.proofs.CaseLaws.{passing}
+use Rattle.selftest.proofs.TestLaws.{never}
 
 slice-aggregate-verdict-gives : tie.Need-slice-aggregate-verdict-gives
 slice-aggregate-verdict-gives c = search needs

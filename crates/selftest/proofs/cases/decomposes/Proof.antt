@@ -6,7 +6,7 @@ use mathlib.Core.List.{List, [], _∷_}
 use Prim.Native.Nat.{ℕ}
 use Rattle.gate.specs.Gadget.{tells}
 use Rattle.decomposes.specs.Decompose.{decomposeGadget}
-use Rattle.held.specs.Held.{sevens, held, partsShown}
+use Rattle.passing.specs.Held.{sevens, held, partsShown}
 
 small-tape-requires : tie.Need-small-tape-requires
 small-tape-requires c κs = search needs

@@ -1,7 +1,8 @@
 use borrow.Author.Needs.{needs}
 use Rattle.selftest.proofs.cases.draws.Statement.{statement}
 use Rattle.selftest.proofs.cases.draws.Tie as tie
-use Rattle.selftest.proofs.CaseLaws.{never, passing}
+use Rattle.passing.proofs.CaseLaws.{passing}
+use Rattle.selftest.proofs.TestLaws.{never}
 
 slice-aggregate-refresh-gives : tie.Need-slice-aggregate-refresh-gives
 slice-aggregate-refresh-gives c = search needs

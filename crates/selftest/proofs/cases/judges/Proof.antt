@@ -6,7 +6,7 @@ use mathlib.Core.List.{List, [], _∷_}
 use Prim.Native.Nat.{ℕ}
 use Rattle.gate.specs.Judge.{judges}
 use Rattle.judges.specs.Verdict.{verdictGadget}
-use Rattle.held.specs.Held.{held, verdictShown}
+use Rattle.passing.specs.Held.{held, verdictShown}
 
 small-tape-requires : tie.Need-small-tape-requires
 small-tape-requires c κs = search needs

@@ -1,7 +1,8 @@
 use borrow.Author.Needs.{needs}
 use Rattle.selftest.proofs.cases.offsets.Statement.{statement}
 use Rattle.selftest.proofs.cases.offsets.Tie as tie
-use Rattle.selftest.proofs.CaseLaws.{never, passing}
+use Rattle.passing.proofs.CaseLaws.{passing}
+use Rattle.selftest.proofs.TestLaws.{never}
 
 slice-aggregate-sample-gives : tie.Need-slice-aggregate-sample-gives
 slice-aggregate-sample-gives c = search needs

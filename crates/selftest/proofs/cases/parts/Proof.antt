@@ -1,7 +1,8 @@
 use borrow.Author.Needs.{needs}
 use Rattle.selftest.proofs.cases.parts.Statement.{statement}
 use Rattle.selftest.proofs.cases.parts.Tie as tie
-use Rattle.selftest.proofs.CaseLaws.{never, passing}
+use Rattle.passing.proofs.CaseLaws.{passing}
+use Rattle.selftest.proofs.TestLaws.{never}
 
 decomposes-requires : tie.Need-decomposes-requires
 decomposes-requires c κs = search needs

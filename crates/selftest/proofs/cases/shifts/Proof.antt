@@ -1,7 +1,8 @@
 use borrow.Author.Needs.{needs}
 use Rattle.selftest.proofs.cases.shifts.Statement.{statement}
 use Rattle.selftest.proofs.cases.shifts.Tie as tie
-use Rattle.selftest.proofs.CaseLaws.{never, passing}
+use Rattle.passing.proofs.CaseLaws.{passing}
+use Rattle.selftest.proofs.TestLaws.{never}
 
 slice-aggregate-shift-gives : tie.Need-slice-aggregate-shift-gives
 slice-aggregate-shift-gives c = search needs

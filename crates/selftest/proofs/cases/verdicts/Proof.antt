@@ -1,7 +1,8 @@
 use borrow.Author.Needs.{needs}
 use Rattle.selftest.proofs.cases.verdicts.Statement.{statement}
 use Rattle.selftest.proofs.cases.verdicts.Tie as tie
-use Rattle.selftest.proofs.CaseLaws.{never, passing}
+use Rattle.passing.proofs.CaseLaws.{passing}
+use Rattle.selftest.proofs.TestLaws.{never}
 
 judges-requires : tie.Need-judges-requires
 judges-requires c κs = search needs

@@ -1,8 +1,7 @@
 -- The cases of the self test, computed on the definitions.
-use mathlib.Core.Path.{_≡_, refl, sym, _∙_}
-use mathlib.Core.Bool.{Bool, true, false, not}
+use mathlib.Core.Path.{_≡_, refl}
+use mathlib.Core.Bool.{true}
 use mathlib.Core.List.{List, [], _∷_}
-use borrow.Author.Tests.{not-true}
 use Prim.Native.Nat.{ℕ, _+_}
 use lib.Count.{leadingZeros}
 use lib.ListN.{replicate}
@@ -42,12 +41,7 @@ use Rattle.conversions.specs.Convert.{toArithmeticGadget}
 use Rattle.widens.specs.Widen.{kindRange}
 use Rattle.decomposes.specs.Decompose.{decomposeGadget}
 use Rattle.judges.specs.Verdict.{verdictGadget}
-use Rattle.held.specs.Held.{sevens, held, sharesShown, partsShown, verdictShown}
-use Rattle.selftest.specs.SmallTape.{smallTape}
-
--- a test that is true is not left by its false side
-pub never : {b c : Bool} {x y : ℕ} → b ≡ c → c ≡ true → not b ≡ true → x ≡ y
-never {b} {c} e t n = search (sym (not-true b n) ∙ (e ∙ t))
+use Rattle.passing.specs.Held.{sevens, smallTape, held, sharesShown, partsShown, verdictShown}
 
 abbrev shown : (wanted : List ℕ) → Told → Type 0
 shown wanted t = held wanted (sharesShown t) ≡ true

@@ -16,6 +16,10 @@ word i xs = getD xs i 0
 abbrev pub sevens : List ℕ
 sevens = replicate 2 7
 
+-- the tape of the cases in shares: small words, of which none is skipped
+abbrev pub smallTape : List ℕ
+smallTape = 3 ∷ 10 ∷ 17 ∷ 24 ∷ 31 ∷ 38 ∷ 45 ∷ 52 ∷ 59 ∷ 66 ∷ 73 ∷ 80 ∷ 87 ∷ 94 ∷ 0 ∷ 7 ∷ 14 ∷ 21 ∷ 28 ∷ 35 ∷ 42 ∷ 49 ∷ 56 ∷ 63 ∷ 41 ∷ 70 ∷ []
+
 -- four words are those that are wanted
 unfoldable pub held : (wanted shown : List ℕ) → Bool
 held wanted shown =
