@@ -1,14 +1,13 @@
 // Runs the public gadgets on the hand cases and on many pseudo-random calls, and prints for each gadget and share count how often
 // each number was answered and a checksum of everything answered. docs/CASES.md says which calls are made.
 mod names;
-mod parts;
-mod verdicts;
 
-use inputs::Pair;
+use calls::Tally;
+use pairs::Pair;
 use params::Params;
-use rounds::Tally;
 use tape::Cursor;
 use tape::Draw;
+use trials::low;
 ghost use Prim.Native.Nat.{_≤_};
 
 fn text(s: &[u8]) {
@@ -35,29 +34,38 @@ fn draw_below_q(a: u32, b: u32) {
         return;
     };
     number(r);
-    number(rounds::low(c.at));
+    number(low(c.at));
     text(b"\n");
 }
 
 // A call on two shares: the number, the words used, and the output slice, which begins as 7s.
 fn on_two(gadget: u32, shares: &[u32], tape: &[u32], p: Pair) {
     let mut out = [7u32; 2];
-    let told = rounds::call(gadget, shares, tape, p, &mut out);
+    let told = calls::call(gadget, shares, tape, p, &mut out);
     names::name(gadget);
     number(told.number);
-    number(rounds::low(told.used));
+    number(low(told.used));
     numbers(&out);
     text(b"\n");
+}
+
+// A shift by 1 from 10.
+fn shift_of(tape: &[u32]) {
+    on_two(3, &[7, 8], tape, Pair::of(10, 1));
+}
+
+fn conversions() {
+    on_two(4, &[6, 7], &[0, 0, 3], Pair::of(3, 0));
+    on_two(5, &[6, 3], &[1, 2, 7], Pair::of(4, 0));
 }
 
 fn by_hand() {
     draw_below_q(8380417, 8380416);
     draw_below_q(8388608, 0);
-    on_two(3, &[7, 8], &[3, 4], Pair::of(10, 1));
-    on_two(3, &[7, 8], &[12, 3, 6, 4], Pair::of(10, 1));
-    on_two(3, &[7, 8], &[12, 3, 6], Pair::of(10, 1));
-    on_two(4, &[6, 7], &[0, 0, 3], Pair::of(3, 0));
-    on_two(5, &[6, 3], &[1, 2, 7], Pair::of(4, 0));
+    shift_of(&[3, 4]);
+    shift_of(&[12, 3, 6, 4]);
+    shift_of(&[12, 3, 6]);
+    conversions();
     on_two(7, &[0, 0], &[0, 0, 0, 0, 0, 0], Pair::of(44, 0));
 }
 
@@ -72,7 +80,7 @@ fn told(t: Tally) {
 fn line(gadget: u32, n: usize) {
     let t = rounds::all_rounds(gadget, n);
     names::name(gadget);
-    number(rounds::low(n));
+    number(low(n));
     told(t);
 }
 
@@ -83,7 +91,7 @@ fn lines(gadget: u32) {
 }
 
 fn far_line(gadget: u32) {
-    let t = rounds::all_counts(gadget);
+    let t = calls::all_counts(gadget);
     names::name(gadget);
     text(b" far");
     told(t);
@@ -94,12 +102,12 @@ fn answered(gadget: u32, residue: u32, n: usize)
     requires { ⌜ n ≤ 8 ⌝ }
 {
     if gadget == 10 {
-        let told = parts::decomposed(residue, n);
+        let told = answers::decomposed(residue, n);
         numbers(&[told.number, told.high, told.low]);
         return;
     }
-    let told = verdicts::on_zeros(residue, n);
-    let used = rounds::low(told.used);
+    let told = answers::on_zeros(residue, n);
+    let used = low(told.used);
     numbers(&[told.number, told.verdict, told.opened, used]);
 }
 
@@ -107,7 +115,7 @@ fn shared_line(gadget: u32, residue: u32, n: usize)
     requires { ⌜ n ≤ 8 ⌝ }
 {
     names::name(gadget);
-    numbers(&[rounds::low(n), residue]);
+    numbers(&[low(n), residue]);
     answered(gadget, residue, n);
     text(b"\n");
 }
@@ -137,9 +145,9 @@ fn sizes(p: Pair, n: usize)
     requires { ⌜ n ≤ 8 ⌝ }
 {
     for i in 0..4 {
-        let size = verdicts::size(i, p);
-        number(verdicts::on_words(size, n, p));
-        number(verdicts::on_words(8380417 - size, n, p));
+        let size = answers::size(i, p);
+        number(answers::on_words(size, n, p));
+        number(answers::on_words(8380417 - size, n, p));
     }
 }
 
@@ -147,7 +155,7 @@ fn sizes_line(p: Pair, n: usize)
     requires { ⌜ n ≤ 8 ⌝ }
 {
     text(b"verdict");
-    numbers(&[p.first, p.second, rounds::low(n)]);
+    numbers(&[p.first, p.second, low(n)]);
     sizes(p, n);
     text(b"\n");
 }
@@ -155,7 +163,7 @@ fn sizes_line(p: Pair, n: usize)
 // For each set, for each kind, for 2 to 8 shares.
 fn all_sizes() {
     for i in 0..42 {
-        let p = Pair::of(inputs::known(i / 14), i / 7 % 2 + 1);
+        let p = Pair::of(pairs::known(i / 14), i / 7 % 2 + 1);
         sizes_line(p, (i % 7 + 2) as usize);
     }
 }

@@ -1,27 +1,8 @@
-// What the rounds of `cases` call with: the parameters, the shares, and the room for the output.
-mod aims;
-mod pairs;
-mod sets;
-
-pub use aims::accepted_below;
-pub use aims::reach;
+// What the rounds of `cases` call with: the shares, and the room for the output.
 use aims::value;
+use pairs::Pair;
 use pairs::bound;
-pub use pairs::parameters;
-pub use sets::known;
 use trials::fill;
-
-// A gadget's parameters; the second is 0 where it has but one.
-pub struct Pair {
-    pub first: u32,
-    pub second: u32,
-}
-
-impl Pair {
-    pub fn of(first: u32, second: u32) -> Pair {
-        Pair { first, second }
-    }
-}
 
 // The difference, or 0 if there is none.
 pub fn less(x: usize, y: usize) -> usize {
@@ -124,7 +105,12 @@ pub fn share(residue: u32, shares: &mut [u32], x: u32) {
 fn aim(gadget: u32, p: Pair, shares: &mut [u32], m: u32, r: u32, x: u32) {
     if r % 3 == 1 {
         if 2 <= m {
-            complete(gadget, shares, value(gadget, p, m - 1, r, x), m);
+            complete(
+                gadget,
+                shares,
+                value(gadget, p.first, p.second, m - 1, r, x),
+                m,
+            );
         }
     }
 }

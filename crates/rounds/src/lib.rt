@@ -1,36 +1,14 @@
 // The calls of the public gadgets in rounds, and what is kept of their answers.
-mod calls;
-mod far;
-mod notes;
 mod tapes;
 
-pub use calls::call;
-pub use far::all_counts;
+use calls::Tally;
 use inputs::fill_shares;
-use inputs::parameters;
 use inputs::room_for;
-pub use notes::low;
+use pairs::parameters;
 use tapes::on_tapes;
 use trials::fill;
+use trials::low;
 use trials::mix;
-
-// What is kept of the answers: how often each number came, and a checksum.
-pub struct Tally {
-    pub counts: [u32; 6],
-    pub sum: u32,
-    // the words used in the last answer
-    pub used: usize,
-}
-
-impl Tally {
-    pub fn start() -> Tally {
-        Tally {
-            counts: [0u32; 6],
-            sum: 0,
-            used: 0,
-        }
-    }
-}
 
 // A call for a polynomial makes 256 coefficients, so it has few rounds.
 fn rounds(gadget: u32) -> u32 {

@@ -1,13 +1,13 @@
 // The calls of one round, which differ in the tape.
-use super::Tally;
-use super::calls::call;
-use super::notes::noted;
-use super::notes::noted_parts;
-use super::notes::noted_verdict;
+use calls::Tally;
+use calls::call;
+use calls::noted;
+use calls::noted_parts;
+use calls::noted_verdict;
 use gadgets::decompose;
 use gadgets::verdict;
-use inputs::Pair;
 use inputs::less;
+use pairs::Pair;
 
 // One call, on an output slice that holds 7 in every word. The verdict has none.
 fn once(t: Tally, gadget: u32, shares: &[u32], tape: &[u32], p: Pair, room: usize) -> Tally {

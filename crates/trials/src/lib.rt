@@ -1,4 +1,4 @@
-// What both programs use: pseudo-random words, the checksum, the sum of shares modulo q, and γ2 of a set. q and γ2 are written out, so that what is
+// What the programs use: pseudo-random words, the checksum, the sum of shares modulo q, and γ2 of a set. q and γ2 are written out, so that what is
 // tried and what is held right do not hang on the constants that the gadgets go by.
 ghost use Prim.Native.Nat.{_<_, _≤_};
 
@@ -17,6 +17,11 @@ pub fn fill(words: &mut [u32], start: u32) -> u32 {
         words[i] = x;
     }
     x
+}
+
+// The low 32 bits of a count.
+pub fn low(n: usize) -> u32 {
+    (n % 4294967296) as u32
 }
 
 // A word into the checksum.

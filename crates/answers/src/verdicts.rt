@@ -1,12 +1,12 @@
 // The verdict on shares of a residue.
+use aims::accepted_below;
+use aims::reach;
 use gadgets::Judged;
 use gadgets::verdict;
-use inputs::Pair;
-use inputs::accepted_below;
-use inputs::reach;
 use inputs::share;
-use rounds::low;
+use pairs::Pair;
 use trials::fill;
+use trials::low;
 use trials::mix;
 ghost use Prim.Native.Nat.{_<_, _≤_};
 

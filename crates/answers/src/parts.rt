@@ -1,8 +1,8 @@
 // Decompose, set 44, in shares.
 use gadgets::decompose;
 use inputs::share;
-use rounds::low;
 use trials::fill;
+use trials::low;
 use trials::mix;
 use trials::recombined;
 ghost use Prim.Native.Nat.{_≤_};

@@ -2,8 +2,8 @@ use borrow.Author.Needs.{needs}
 use mathlib.Core.Path.{sym}
 use native.Mathlib.Omega.{arith}
 use lib.Seq.{length-take-le}
-use Rattle.cases.proofs.verdicts.judged.Statement.{statement}
-use Rattle.cases.proofs.verdicts.judged.Tie as tie
+use Rattle.answers.proofs.verdicts.judged.Statement.{statement}
+use Rattle.answers.proofs.verdicts.judged.Tie as tie
 
 array-borrow-prefix-shares : tie.Need-array-borrow-prefix-shares
 array-borrow-prefix-shares c = search needs

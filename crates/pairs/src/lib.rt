@@ -1,8 +1,21 @@
-// The parameters that a round calls with.
-use super::Pair;
-use super::sets::set;
-use super::sets::set_and_kind;
-use words::power;
+// The parameters that a round calls with, right and wrong, and what the shares are below.
+mod sets;
+
+pub use sets::known;
+use sets::set;
+use sets::set_and_kind;
+
+// A gadget's parameters; the second is 0 where it has but one.
+pub struct Pair {
+    pub first: u32,
+    pub second: u32,
+}
+
+impl Pair {
+    pub fn of(first: u32, second: u32) -> Pair {
+        Pair { first, second }
+    }
+}
 
 fn modulus(r: u32, x: u32) -> u32 {
     match r % 8 {
@@ -56,7 +69,7 @@ fn modulus_and_t(r: u32, x: u32) -> Pair {
         3 => times_power(8380417, x % 9 + 1),
         4 => times_power(x / 8 % 1000 * 2 + 3, x % 8 + 1),
         5 => Pair::of(x, r / 8 % 34),
-        6 => Pair::of(power((x % 31 + 2) % 32), x % 31 + 1),
+        6 => Pair::of(1 << ((x % 31 + 2) % 32), x % 31 + 1),
         _ => Pair::of(x % 6 * 2, x / 6 % 3),
     }
 }
@@ -77,6 +90,6 @@ pub fn bound(gadget: u32, a: u32) -> u32 {
     match gadget {
         1 | 3 => a,
         9 | 10 | 11 => 8380417,
-        _ => power(a % 32),
+        _ => 1 << (a % 32),
     }
 }

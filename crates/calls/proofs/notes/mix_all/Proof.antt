@@ -2,8 +2,8 @@ use borrow.Author.Needs.{needs}
 use mathlib.Core.Path.{_≡_}
 use Prim.Native.Nat.{_≤_, _-_}
 use lib.ListN.{length}
-use Rattle.rounds.proofs.notes.mix_all.Statement.{statement}
-use Rattle.rounds.proofs.notes.mix_all.Tie as tie
+use Rattle.calls.proofs.notes.mix_all.Statement.{statement}
+use Rattle.calls.proofs.notes.mix_all.Tie as tie
 
 abbrev Inv-loop : tie.InvT-loop
 Inv-loop sum words s₀ i₀ i-end s i = (i-end ≡ length words) × (i ≤ i-end)

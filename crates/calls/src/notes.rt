@@ -3,14 +3,10 @@ use super::Tally;
 use gadgets::Answer;
 use gadgets::Decomposed;
 use gadgets::Judged;
+use trials::low;
 use trials::mix;
 
-// The low 32 bits of a count.
-pub fn low(n: usize) -> u32 {
-    (n % 4294967296) as u32
-}
-
-pub fn mix_all(sum: u32, words: &[u32]) -> u32 {
+fn mix_all(sum: u32, words: &[u32]) -> u32 {
     let mut s = sum;
     for i in 0..words.len() {
         s = mix(s, words[i]);
@@ -18,7 +14,7 @@ pub fn mix_all(sum: u32, words: &[u32]) -> u32 {
     s
 }
 
-pub fn counted(counts: [u32; 6], number: u32) -> [u32; 6] {
+fn counted(counts: [u32; 6], number: u32) -> [u32; 6] {
     let mut next = counts;
     let i = (number % 6) as usize;
     next[i] = std::num::wrapping_add_u32(next[i], 1);

@@ -2,8 +2,8 @@ use borrow.Author.Needs.{needs}
 use mathlib.Core.Path.{sym}
 use native.Mathlib.Omega.{arith}
 use lib.Seq.{length-take-le}
-use Rattle.rounds.proofs.far.lent.Statement.{statement}
-use Rattle.rounds.proofs.far.lent.Tie as tie
+use Rattle.calls.proofs.far.lent.Statement.{statement}
+use Rattle.calls.proofs.far.lent.Tie as tie
 
 returns : tie.Need-returns
 returns c = search needs

@@ -1,7 +1,7 @@
 use borrow.Author.Needs.{needs}
 use Prim.Native.Nat.{_≤_, _-_}
-use Rattle.rounds.proofs.far.all_counts.Statement.{statement}
-use Rattle.rounds.proofs.far.all_counts.Tie as tie
+use Rattle.calls.proofs.far.all_counts.Statement.{statement}
+use Rattle.calls.proofs.far.all_counts.Tie as tie
 
 abbrev Inv-loop : tie.InvT-loop
 Inv-loop gadget t₀ i₀ t i = i ≤ 40

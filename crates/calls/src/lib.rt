@@ -1,4 +1,8 @@
-// The gadgets by their numbers.
+// The calls of the public gadgets by their numbers, and what is kept of their answers.
+mod far;
+mod notes;
+
+pub use far::all_counts;
 use gadgets::Answer;
 use gadgets::refresh;
 use gadgets::refresh_boolean;
@@ -9,10 +13,31 @@ use gadgets::to_arithmetic;
 use gadgets::to_boolean;
 use gadgets::to_mod_q;
 use gadgets::widen;
-use inputs::Pair;
+pub use notes::noted;
+pub use notes::noted_parts;
+pub use notes::noted_verdict;
+use pairs::Pair;
+
+// What is kept of the answers: how often each number came, and a checksum.
+pub struct Tally {
+    pub counts: [u32; 6],
+    pub sum: u32,
+    // the words used in the last answer
+    pub used: usize,
+}
+
+impl Tally {
+    pub fn start() -> Tally {
+        Tally {
+            counts: [0u32; 6],
+            sum: 0,
+            used: 0,
+        }
+    }
+}
 
 // A sampler has no shares to count, so it is told how many there are.
-pub fn call_sampler(gadget: u32, tape: &[u32], n: usize, set: u32, out: &mut [u32]) -> Answer {
+fn call_sampler(gadget: u32, tape: &[u32], n: usize, set: u32, out: &mut [u32]) -> Answer {
     match gadget {
         7 => sample(tape, n, set, out),
         _ => sample_polynomial(tape, n, set, out),

@@ -1,6 +1,5 @@
 // The values that some rounds aim at, since a step is likely to go wrong there. Bounds and reaches are written out, so that they do
 // not hang on the constants that the gadgets go by.
-use super::Pair;
 use trials::gamma2;
 ghost use Prim.Native.Nat.{_<_};
 
@@ -86,15 +85,11 @@ fn verdict_edge(i: u32, a: u32, b: u32) -> u32
 }
 
 // Of widening the last is (q − 1)/2, the largest number.
-pub fn value(gadget: u32, p: Pair, largest: u32, r: u32, x: u32) -> u32 {
+pub fn value(gadget: u32, set: u32, kind: u32, largest: u32, r: u32, x: u32) -> u32 {
     match gadget {
-        9 => edge(r / 3 % 9, reach(p.first, p.second), 4190208),
-        10 => edge(r / 3 % 9, gamma2(p.first), end_of_high(p.first, x)),
-        11 => verdict_edge(
-            r / 3 % 11,
-            accepted_below(p.first, p.second),
-            reach(p.first, p.second),
-        ),
+        9 => edge(r / 3 % 9, reach(set, kind), 4190208),
+        10 => edge(r / 3 % 9, gamma2(set), end_of_high(set, x)),
+        11 => verdict_edge(r / 3 % 11, accepted_below(set, kind), reach(set, kind)),
         _ => end(r / 3 % 3, largest),
     }
 }
