@@ -2,8 +2,8 @@
 use checks::first_failing;
 use checks::inside;
 use checks::width_bound;
+use copies::copy_in;
 use gate::Answer;
-use gate::copy_in;
 use gate::finish;
 use gate::refused;
 use params::Params;

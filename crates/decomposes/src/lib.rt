@@ -2,10 +2,10 @@
 use checks::Admitted;
 use checks::admit;
 use checks::first_failing;
+use copies::copy_in;
 use decompose::High;
 use decompose::high_part;
 use decompose::low_shares;
-use gate::copy_in;
 use gate::finish;
 use params::Params;
 use shares::refresh;

@@ -16,7 +16,8 @@ use Rattle.gate.specs.Judge.{judges}
 use Rattle.widening.specs.Widening.{widenPlan}
 use Rattle.product.specs.Product.{productPlan}
 use Rattle.zero.specs.ZeroTest.{scalesPlan}
-use Rattle.verdict.specs.Verdict.{sidesPlan, frontPlan, verdictPlan}
+use Rattle.sides.specs.Sides.{sidesPlan}
+use Rattle.verdict.specs.Verdict.{frontPlan, verdictPlan}
 use Rattle.zero.proofs.ZeroLaws.{scales-length}
 use Rattle.judges.specs.declared.Judged.{Judged}
 use Rattle.judges.specs.Verdict.{verdictGadget}

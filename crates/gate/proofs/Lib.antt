@@ -1,2 +1,1 @@
 pub mod GadgetLaws
-pub mod CopyLaws

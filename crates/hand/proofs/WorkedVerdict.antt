@@ -19,7 +19,8 @@ use Rattle.gate.specs.Judge.{judgeChecks, judges}
 use Rattle.widening.specs.Widening.{widen, widenPlan}
 use Rattle.product.specs.Product.{begun, crossed, pair, row, product, productPlan}
 use Rattle.zero.specs.ZeroTest.{scaled, scaleTurn, zeroTest, scalePlan, scalesPlan}
-use Rattle.verdict.specs.Verdict.{side, sidesProduct, tested, verdictOf, verdict, sidesPlan, frontPlan, verdictPlan}
+use Rattle.sides.specs.Sides.{side, sidesProduct, sidesPlan}
+use Rattle.verdict.specs.Verdict.{tested, verdictOf, verdict, frontPlan, verdictPlan}
 use Rattle.widens.specs.Widen.{kindRange}
 use Rattle.judges.specs.Verdict.{verdictGadget}
 use Rattle.hand.specs.WorkedVerdict.{WorkedVerdict}

@@ -2,7 +2,7 @@
 use checks::Admitted;
 use checks::admit;
 use checks::first_failing;
-use gate::copy_in;
+use copies::copy_in;
 use opening::opened;
 use params::Bounds;
 use params::Params;

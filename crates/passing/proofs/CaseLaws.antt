@@ -34,7 +34,8 @@ use Rattle.widening.specs.Widening.{widen}
 use Rattle.decompose.specs.Decompose.{highShares, highPart, lowShares, decompose}
 use Rattle.product.specs.Product.{begun, crossed, pair, row, product}
 use Rattle.zero.specs.ZeroTest.{scaled, scaleTurn, zeroTest}
-use Rattle.verdict.specs.Verdict.{side, sidesProduct, tested, verdictOf, verdict}
+use Rattle.sides.specs.Sides.{side, sidesProduct}
+use Rattle.verdict.specs.Verdict.{tested, verdictOf, verdict}
 use Rattle.refreshes.specs.Refresh.{refreshGadget}
 use Rattle.shifts.specs.Shift.{shiftRange, shiftGadget, toBooleanGadget}
 use Rattle.conversions.specs.Convert.{toArithmeticGadget}

@@ -1,5 +1,5 @@
 // Sampling of a mask in shares: the 256 coefficients of a polynomial, each in its row of the caller's slice.
-use gate::copy_out;
+use copies::copy_out;
 use params::Params;
 use sample::coefficient;
 use tape::Cursor;

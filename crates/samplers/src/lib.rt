@@ -2,8 +2,8 @@
 use checks::Admitted;
 use checks::admit;
 use checks::first_of_three;
+use copies::clear;
 use gate::Answer;
-use gate::clear;
 use gate::finish;
 use gate::refused;
 use params::Params;

@@ -38,10 +38,11 @@ use Rattle.widening.proofs.ValueLaws.{widen-gives}
 use Rattle.product.specs.Product.{product}
 use Rattle.product.proofs.ValueLaws.{product-gives}
 use Rattle.zero.specs.ZeroTest.{zeroTest, scalesPlan}
-use Rattle.verdict.specs.Verdict.{side, sidesProduct, tested, verdictOf, judged, verdict, sidesPlan, frontPlan, verdictPlan}
+use Rattle.sides.specs.Sides.{side, sidesProduct, sidesPlan}
+use Rattle.verdict.specs.Verdict.{tested, verdictOf, judged, verdict, frontPlan, verdictPlan}
 use Rattle.zero.specs.Scalars.{scalarsOf}
 use Rattle.verdict.specs.Plain.{accepted, sideOf, leftOf, rightOf, openedOf}
-use Rattle.verdict.proofs.StepLaws.{bound-wide}
+use Rattle.sides.proofs.StepLaws.{bound-wide}
 use Rattle.verdict.proofs.PlainLaws.{rejected-zero, accepted-not-zero}
 use Rattle.zero.proofs.ZeroLaws.{zero-test-gives, zero-test-feed, scalars-not-zero}
 use Rattle.verdict.proofs.PartLaws.{verdict-parts, drop-front}

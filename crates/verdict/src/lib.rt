@@ -1,7 +1,5 @@
 // The verdict: whether the number in the shares is small enough. Both sides of it are multiplied in shares, and only the product, multiplied by random
 // scalars, is opened.
-mod sides;
-
 use params::Bounds;
 use params::Params;
 use shares::Shared;

@@ -1,8 +1,8 @@
 use borrow.Author.Needs.{needs}
 use mathlib.Core.Path.{sym}
 use lib.ListN.{List·getD-eq-default}
-use Rattle.gate.proofs.word_at.Statement.{statement}
-use Rattle.gate.proofs.word_at.Tie as tie
+use Rattle.copies.proofs.word_at.Statement.{statement}
+use Rattle.copies.proofs.word_at.Tie as tie
 
 mul-result : tie.Need-mul-result
 mul-result c = search needs

@@ -6,8 +6,8 @@ use native.Mathlib.Omega.{arith}
 use lib.ListN.{length, length-set, replicate, drop, set}
 use lib.Seq.{drop-length}
 use borrow.Author.Fill.{fill-more}
-use Rattle.gate.proofs.clear.Statement.{statement}
-use Rattle.gate.proofs.clear.Tie as tie
+use Rattle.copies.proofs.clear.Statement.{statement}
+use Rattle.copies.proofs.clear.Tie as tie
 
 abbrev Inv-loop : tie.InvT-loop
 Inv-loop out₀ i₀ i-end out i = (i ≤ length out₀) × (length out ≡ length out₀) × (out ≡ replicate i 0 ++ drop i out₀)

@@ -2,9 +2,9 @@ use borrow.Author.Needs.{needs}
 use Prim.Native.Nat.{_-_}
 use lib.ListN.{getD}
 use Rattle.numbers.proofs.AlongLaws.{Along, along-start, along-more}
-use Rattle.gate.proofs.CopyLaws.{copied}
-use Rattle.gate.proofs.copy_in.Statement.{statement}
-use Rattle.gate.proofs.copy_in.Tie as tie
+use Rattle.copies.proofs.CopyLaws.{copied}
+use Rattle.copies.proofs.copy_in.Statement.{statement}
+use Rattle.copies.proofs.copy_in.Tie as tie
 
 abbrev Inv-loop : tie.InvT-loop
 Inv-loop shares words₀ i₀ words i = Along 8 (λ j x. getD shares j 0) words₀ i words

@@ -1,8 +1,8 @@
 use borrow.Author.Needs.{needs}
 use Prim.Native.Nat.{_-_}
-use Rattle.gate.proofs.CopyLaws.{Writing, writing-start, writing-more, writing-all}
-use Rattle.gate.proofs.copy_out.Statement.{statement}
-use Rattle.gate.proofs.copy_out.Tie as tie
+use Rattle.copies.proofs.CopyLaws.{Writing, writing-start, writing-more, writing-all}
+use Rattle.copies.proofs.copy_out.Statement.{statement}
+use Rattle.copies.proofs.copy_out.Tie as tie
 
 abbrev Inv-loop : tie.InvT-loop
 Inv-loop out₀ words i₀ out i = Writing words out₀ i out

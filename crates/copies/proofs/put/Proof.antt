@@ -1,8 +1,8 @@
 use borrow.Author.Needs.{needs}
 use mathlib.Core.Path.{sym}
 use lib.Seq.{set-out}
-use Rattle.gate.proofs.put.Statement.{statement}
-use Rattle.gate.proofs.put.Tie as tie
+use Rattle.copies.proofs.put.Statement.{statement}
+use Rattle.copies.proofs.put.Tie as tie
 
 mul-out : tie.Need-mul-out
 mul-out c = search needs

@@ -13,10 +13,10 @@ use Rattle.shares.specs.Sharing.{negated}
 use Rattle.shares.proofs.ArraysLaws.{held-of, held-below, given-as, gave, stopped, cut-off}
 use Rattle.shares.proofs.NegatedLaws.{negated-take, negated-words}
 use Rattle.widening.specs.Widening.{wide}
-use Rattle.verdict.specs.Verdict.{side}
-use Rattle.verdict.proofs.StepLaws.{left-ended, right-ended, fresh-ended, to-product}
-use Rattle.verdict.proofs.sides.sides_product.Statement.{statement}
-use Rattle.verdict.proofs.sides.sides_product.Tie as tie
+use Rattle.sides.specs.Sides.{side}
+use Rattle.sides.proofs.StepLaws.{left-ended, right-ended, fresh-ended, to-product}
+use Rattle.sides.proofs.sides_product.Statement.{statement}
+use Rattle.sides.proofs.sides_product.Tie as tie
 
 left : (c : tie.Else1) →
     let l = c .before .before in

@@ -3,8 +3,8 @@ use Prim.Native.Nat.{_-_}
 use Rattle.numbers.specs.Modulo.{negMod}
 use Rattle.numbers.proofs.AlongLaws.{Along, along-start, along-read, along-more, along-all}
 use Rattle.shares.specs.Sharing.{negated}
-use Rattle.verdict.proofs.sides.negated.Statement.{statement}
-use Rattle.verdict.proofs.sides.negated.Tie as tie
+use Rattle.sides.proofs.negated.Statement.{statement}
+use Rattle.sides.proofs.negated.Tie as tie
 
 abbrev Inv-loop : tie.InvT-loop
 Inv-loop m words₀ i₀ words i = Along 8 (λ j x. negMod m x) words₀ i words

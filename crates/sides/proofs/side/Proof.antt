@@ -13,10 +13,10 @@ use Rattle.first.specs.First.{takeFromFirst}
 use Rattle.first.proofs.FirstLaws.{taken-take}
 use Rattle.shift.specs.Shift.{shift}
 use Rattle.widening.specs.Widening.{widened}
-use Rattle.verdict.specs.Verdict.{side}
-use Rattle.verdict.proofs.StepLaws.{bound-wide, side-held}
-use Rattle.verdict.proofs.sides.side.Statement.{statement}
-use Rattle.verdict.proofs.sides.side.Tie as tie
+use Rattle.sides.specs.Sides.{side}
+use Rattle.sides.proofs.StepLaws.{bound-wide, side-held}
+use Rattle.sides.proofs.side.Statement.{statement}
+use Rattle.sides.proofs.side.Tie as tie
 
 first : (c : tie.After-take-from-first) →
     let a = c .before .before .before .args in
