@@ -22,7 +22,7 @@ use Rattle.draws.specs.Anew.{anew, ExactlyOne}
 use Rattle.draws.proofs.Outcomes.{Gives, feed, Fits, merged}
 use Rattle.draws.proofs.PlanLaws.{Reads, reads-fit, reads-run, planned-ran, planned-parts}
 use Rattle.draws.proofs.AnewLaws.{anew-run, anew-reads, anew-is, exactly-as, one-anew}
-use Rattle.draws.proofs.HitLaws.{set-first-below}
+use Rattle.hits.proofs.HitLaws.{set-first-below}
 use Rattle.shares.specs.Sharing.{arithmetic}
 use Rattle.shares.proofs.SharingLaws.{Shares}
 use Rattle.gate.specs.Told.{Told, Outcome}

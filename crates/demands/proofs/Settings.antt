@@ -15,7 +15,7 @@ use Rattle.draws.proofs.Outcomes.{Gives, feed, Fits, merged, Marks}
 use Rattle.draws.proofs.PlanLaws.{Reads, reads-fit, planned-parts, always-run, always-feed, feed-bind, feed-map, FitBoth, fits-split}
 use Rattle.draws.proofs.MarksLaws.{marked-after, marked-length, merged-after}
 use Rattle.draws.proofs.AnewLaws.{anew-run, anew-is, exactly-as, one-anew, reads-length}
-use Rattle.draws.proofs.HitLaws.{set-below}
+use Rattle.hits.proofs.HitLaws.{set-below}
 use Rattle.shares.specs.Sharing.{Sharing, bound, value}
 use Rattle.shares.specs.Refresh.{refresh, refreshPlan}
 use Rattle.shares.specs.Closing.{closingMarks, SameBut}

@@ -4,4 +4,3 @@ pub mod DrawnLaws
 pub mod PlanLaws
 pub mod MarksLaws
 pub mod AnewLaws
-pub mod HitLaws

@@ -36,6 +36,6 @@ pub fn refresh_boolean(shares: &[u32], tape: &[u32], width: u32, out: &mut [u32]
     if number != 0 {
         return refused(number);
     }
-    let s = shares::refresh_boolean(copy_in(shares), shares.len(), width, Cursor::start(), tape);
+    let s = boolean::refresh_boolean(copy_in(shares), shares.len(), width, Cursor::start(), tape);
     finish(s, out)
 }

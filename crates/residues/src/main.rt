@@ -6,7 +6,9 @@ mod tried;
 
 ghost use Prim.Native.Nat.{_≤_};
 
+// A number, after a space.
 fn number(x: u32) {
+    io::write_all(1, b" ");
     io::print_decimal(1, x as u64);
 }
 
@@ -15,14 +17,10 @@ fn line(set: u32, n: usize)
     requires { ⌜ n ≤ 8 ⌝ }
 {
     let t = lines::tally(set, n);
-    number(set);
-    io::write_all(1, b" ");
+    io::print_decimal(1, set as u64);
     number(n as u32);
-    io::write_all(1, b" ");
     number(t.residues);
-    io::write_all(1, b" ");
     number(t.wrong);
-    io::write_all(1, b" ");
     number(t.sum);
     io::write_all(1, b"\n");
 }

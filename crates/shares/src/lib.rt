@@ -1,12 +1,9 @@
-// Shares in small arrays by value, n beside them: both refreshes, and what closes with them.
+// Shares in small arrays by value, n beside them: the refresh mod m, and what closes with it.
 mod arithmetic;
-mod boolean;
 mod closing;
 
 pub use arithmetic::refresh;
-pub use boolean::refresh_boolean;
 pub use closing::close;
-pub use closing::close_boolean;
 use params::Params;
 use tape::Cursor;
 ghost use mathlib.Core.Path.{_≡_};

@@ -1,4 +1,5 @@
 // The shift by t, and arithmetic to Boolean.
+use boolean::close_boolean;
 use checks::first_failing;
 use checks::inside;
 use checks::width_bound;
@@ -7,7 +8,6 @@ use gate::Answer;
 use gate::finish;
 use gate::refused;
 use shares::close;
-use shares::close_boolean;
 use shift::shift_by;
 use tape::Cursor;
 use words::power;

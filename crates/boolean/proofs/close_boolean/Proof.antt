@@ -1,8 +1,8 @@
 use borrow.Author.Needs.{needs}
 use borrow.Author.Tests.{not-false}
 use Rattle.shares.proofs.ArraysLaws.{next-whole, next-none, given-as, cut-off}
-use Rattle.shares.proofs.closing.close_boolean.Statement.{statement}
-use Rattle.shares.proofs.closing.close_boolean.Tie as tie
+use Rattle.boolean.proofs.close_boolean.Statement.{statement}
+use Rattle.boolean.proofs.close_boolean.Tie as tie
 
 ended-requires : tie.Need-ended-requires
 ended-requires c κs = search needs

@@ -1,15 +1,17 @@
-// Boolean refresh of width k, with the last share in a local as in the refresh mod m.
-use super::Shared;
+// Boolean refresh of width k, with the last share in a local as in the refresh mod m; and that of what steps gave.
 use params::Params;
+use shares::Shared;
 use tape::Cursor;
 use tape::Draw;
 use words::power;
+ghost use mathlib.Core.Path.{_≡_};
+ghost use mathlib.Core.Bool.{true};
 ghost use Prim.Native.Nat.{_^_, _≤_};
 ghost use lib.ListN.{take};
-ghost use Rattle.draws.specs.Draws.{run};
+ghost use Rattle.draws.specs.Draws.{next, run};
 ghost use Rattle.shares.specs.Sharing.{boolean};
 ghost use Rattle.shares.specs.Refresh.{refresh};
-ghost use Rattle.shares.specs.Arrays.{Held, Gave};
+ghost use Rattle.shares.specs.Arrays.{Held, shared, Gave};
 
 pub fn refresh_boolean(
     shares: [u32; Params::MOST],
@@ -40,4 +42,17 @@ pub fn refresh_boolean(
         cursor: cur,
         ok: true,
     }
+}
+
+// Where the tape has ended, nothing follows.
+pub fn close_boolean(s: Shared, n: usize, k: u32, tape: &[u32]) -> Shared
+    requires { ⌜ (k ≤ 31) × (s .ok ≡ true → Held 8 n (2 ^ k) (s .words)) ⌝ }
+    ensures { λ r. ⌜ Gave n (2 ^ k) r (next (shared n s) (λ xs c. run (refresh (boolean k) xs) (now (tape .entry)) c)) ⌝ }
+{
+    if !s.ok {
+        return Shared::ended();
+    }
+    let words = s.words;
+    let c = s.cursor;
+    refresh_boolean(words, n, k, c, tape)
 }

@@ -7,12 +7,12 @@ use Rattle.numbers.specs.Modulo.{xor}
 use Rattle.tape.specs.Tape.{drawAt}
 use Rattle.tape.specs.Answers.{drawStandsFor}
 use Rattle.draws.specs.Draws.{run}
 use Rattle.shares.specs.Sharing.{boolean}
 use Rattle.shares.specs.Refresh.{refresh}
 use Rattle.shares.proofs.ArraysLaws.{whole, cut-off}
 use Rattle.shares.proofs.TurnLaws.{Remaining, remaining-start, remaining-words, remaining-none, remaining-ended, remaining-more}
-use Rattle.shares.proofs.boolean.refresh_boolean.Statement.{statement}
-use Rattle.shares.proofs.boolean.refresh_boolean.Tie as tie
+use Rattle.boolean.proofs.refresh_boolean.Statement.{statement}
+use Rattle.boolean.proofs.refresh_boolean.Tie as tie
 
 abbrev Inv-loop : tie.InvT-loop
 Inv-loop n k tape m words₀ cur₀ last last-share₀ i₀ words cur last-share i =

@@ -1,0 +1,1 @@
+// No code: a draw that is set anew to a number that is not below its modulus is skipped. The laws are in proofs/.
