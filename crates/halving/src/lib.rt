@@ -3,5 +3,7 @@
 // registers. A single store just before the array is copied costs more than the arithmetic.
 mod parity;
 mod steps;
+mod two;
 
 pub use steps::halve;
+pub use two::halve_two;

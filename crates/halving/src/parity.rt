@@ -24,7 +24,7 @@ fn signed(p: u32, x: u32, modulus: u32) -> u32
 }
 
 // The word at place i once a parity has joined.
-fn joined(i: usize, p: u32, x: u32, modulus: u32) -> u32
+pub fn joined(i: usize, p: u32, x: u32, modulus: u32) -> u32
     requires { ⌜ (x < modulus) × (2 ≤ modulus) × (p < 2) ⌝ }
     ensures { λ r. ⌜ r ≡ joined modulus p i x ⌝ }
 {

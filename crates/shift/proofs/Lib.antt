@@ -1,4 +1,4 @@
-pub mod ShiftLaws
 pub mod BitLaws
+pub mod HalvingsLaws
 pub mod FloorLaws
 pub mod BooleanLaws

@@ -1,19 +1,18 @@
-// Arithmetic shares mod 2^k to Boolean shares of width k.
-use super::halvings::shift_by;
+// What is gathered along the halvings: bits of Boolean shares, from the parities of the arithmetic ones; or, for the shift, nothing.
 use params::Params;
-use shares::Shared;
-use tape::Cursor;
 use words::power;
 ghost use mathlib.Core.Path.{_≡_};
-ghost use Prim.Native.Nat.{_^_, _≤_};
-ghost use lib.ListN.{take};
+ghost use Prim.Native.Nat.{_^_, _≤_, _<_};
 ghost use Rattle.numbers.specs.Lists.{Words};
-ghost use Rattle.draws.specs.Draws.{run};
-ghost use Rattle.shares.specs.Arrays.{Held, Gave};
-ghost use Rattle.shift.specs.ToBoolean.{withBit, toBoolean};
+ghost use Rattle.shift.specs.ToBoolean.{withBit};
+ghost use Rattle.shift.specs.Halvings.{gathered, gatheredWord};
 
 // Bit b of each word, from the parities of the arithmetic shares.
-fn with_bit(words: [u32; Params::MOST], shares: [u32; Params::MOST], b: u32) -> [u32; Params::MOST]
+pub fn with_bit(
+    words: [u32; Params::MOST],
+    shares: [u32; Params::MOST],
+    b: u32,
+) -> [u32; Params::MOST]
     requires { ⌜ (b ≤ 30) × Words 8 (2 ^ b) words ⌝ }
     ensures { λ r. ⌜ r ≡ withBit b shares words ⌝ }
 {
@@ -25,34 +24,28 @@ fn with_bit(words: [u32; Params::MOST], shares: [u32; Params::MOST], b: u32) -> 
     out
 }
 
-// The halving between bits is a shift by 1. So `halve` has one caller, and the compiler can take it into that loop; called from two places, it
-// made a shift of two shares take twice the time.
-pub fn to_boolean(
+pub fn gathered(
+    gathers: bool,
+    words: [u32; Params::MOST],
     shares: [u32; Params::MOST],
-    n: usize,
-    k: u32,
-    cursor: Cursor,
-    tape: &[u32],
-) -> Shared
-    requires { ⌜ (1 ≤ k) × (k ≤ 31) × Held 8 n (2 ^ k) shares ⌝ }
-    ensures { λ r. ⌜ Gave n (2 ^ k) r (run (toBoolean k (take n shares)) (now (tape .entry)) cursor) ⌝ }
+    b: u32,
+) -> [u32; Params::MOST]
+    requires { ⌜ (b ≤ 30) × Words 8 (2 ^ b) words ⌝ }
+    ensures { λ r. ⌜ r ≡ gathered gathers b shares words ⌝ }
 {
-    let mut words = [0u32; Params::MOST];
-    let mut rest = shares;
-    let mut cur = cursor;
-    for b in 0..k - 1 {
-        let more = with_bit(words, rest, b);
-        let s = shift_by(rest, n, power(k - 1 - b), 1, cur, tape);
-        if !s.ok {
-            return Shared::ended();
-        }
-        words = more;
-        rest = s.words;
-        cur = s.cursor;
+    if gathers {
+        return with_bit(words, shares, b);
     }
-    Shared {
-        words: with_bit(words, rest, k - 1),
-        cursor: cur,
-        ok: true,
+    words
+}
+
+// The same of one word.
+pub fn gathered_word(gathers: bool, word: u32, share: u32, b: u32) -> u32
+    requires { ⌜ (b ≤ 30) × (word < 2 ^ b) ⌝ }
+    ensures { λ r. ⌜ r ≡ gatheredWord gathers b share word ⌝ }
+{
+    if gathers {
+        return word + power(b) * (share % 2);
     }
+    word
 }

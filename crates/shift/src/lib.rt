@@ -1,6 +1,8 @@
 // The shift by t, which is t halvings, and arithmetic shares mod 2^k to Boolean ones, with a halving between bits.
 mod bits;
 mod halvings;
+mod many;
+mod two;
 
-pub use bits::to_boolean;
 pub use halvings::shift_by;
+pub use halvings::to_boolean;
