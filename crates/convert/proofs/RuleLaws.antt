@@ -5,104 +5,126 @@ use mathlib.Core.List.{List, [], _∷_, _++_}
 use Prim.Native.Nat.{ℕ, suc, _+_, _-_, _^_, _≤_, _<_}
 use native.Mathlib.Numerals.{add-one}
 use native.Mathlib.Omega.{arith}
-use lib.ListN.{length, getD, set, take, drop, replicate, length-drop}
+use lib.ListN.{length, getD, set, take, drop, replicate, length-drop, length-replicate}
 use lib.Pow.{pow-pos}
 use lib.Seq.{getD-take, length-take-le, take-suc-set, getD-set-other}
 use Rattle.numbers.specs.Modulo.{xor}
 use Rattle.numbers.specs.Lists.{Words, change, along}
 use Rattle.numbers.proofs.XorLaws.{xor-below}
-use Rattle.numbers.proofs.WordsLaws.{words-cons, words-drop, words-set, words-same, take-rest}
+use Rattle.numbers.proofs.WordsLaws.{words-head, words-cons, words-drop, words-set, words-same, take-rest}
+use Rattle.numbers.proofs.AlongLaws.{along-is}
 use Rattle.tape.specs.declared.Cursor.{Cursor}
 use Rattle.tape.specs.declared.Draw.{Draw}
 use Rattle.tape.specs.declared.Draw.the-variants.{Got, Ended}
 use Rattle.tape.specs.Tape.{Ran, ended, ran, drawAt}
 use Rattle.tape.specs.Answers.{drawStandsFor}
-use Rattle.draws.specs.Draws.{Draws, done, bind, run}
-use Rattle.draws.proofs.RunLaws.{run-done, bind-ran, bind-ended, part-ran, part-ended}
-use Rattle.shares.specs.Sharing.{boolean}
-use Rattle.shares.specs.Refresh.{refresh}
+use Rattle.tape.proofs.DrawLaws.{got, got-none}
+use Rattle.draws.specs.Draws.{Draws, done, draw, run, bind, turns, each}
+use Rattle.draws.proofs.RunLaws.{run-done, run-draw, run-ended, bind-ran, bind-ended, part-ran, part-ended}
+use Rattle.draws.proofs.PlanLaws.{always-run}
+use Rattle.shares.specs.Sharing.{boolean, move}
+use Rattle.shares.specs.Refresh.{turn, refresh}
 use Rattle.shares.specs.Arrays.{Held, Copied, Given}
 use Rattle.shares.proofs.ArraysLaws.{held-at, copied-take, held-copied, given-as, whole}
-use Rattle.shares.proofs.TurnLaws.{Remaining, remaining-start, remaining-none, remaining-ended, remaining-draw, remaining-more}
+use Rattle.shares.proofs.RefreshLaws.{refresh-keeps}
 use Rattle.psi.specs.Psi.{psi, psis, zOf, added}
 use Rattle.convert.specs.ToArithmetic.{rule, toArithmetic}
 use Rattle.psi.proofs.ListLaws.{psi-below, z-take}
 
--- three shares: the words that the refresh makes of them, and the two results
-three-words : (ws : List ℕ) (x y z : ℕ) → length ws ≡ 9 → take 3 (set (set (set ws 0 x) 1 y) 2 z) ≡ x ∷ y ∷ z ∷ []
-three-words [] x y z e = absurd (omega arith)
-three-words (a ∷ []) x y z e = absurd (omega arith)
-three-words (a ∷ b ∷ []) x y z e = absurd (omega arith)
-three-words (a ∷ b ∷ c ∷ ws) x y z e = refl
+-- ---- the steps of the rule on three shares or more
+module _ (k : ℕ) {i j : ℕ} (one : i ≡ suc j) where
+  unfoldable after-z : List ℕ → List ℕ → Draws (List ℕ)
+  after-z us zs = done (added (2 ^ k) us zs)
 
-three-rest : (k x y z : ℕ) (tape : List ℕ) (c : Cursor) →
-    run (bind (rule k 0 (y ∷ z ∷ [])) (λ us. bind (rule k 0 (zOf k 3 x (y ∷ z ∷ []))) (λ zs. done (added (2 ^ k) us zs)))) tape c
-    ≡ ran (xor y z ∷ xor (xor (psi k x y) x) (psi k x z) ∷ []) c
-unfolding rule zOf psis added along change bind run
-three-rest k x y z tape c = refl
+  unfoldable after-u : List ℕ → List ℕ → Draws (List ℕ)
+  after-u ys us = bind (rule k j (zOf k (length ys) (getD ys 0 0) (drop 1 ys))) (after-z us)
 
+  unfoldable after-refresh : List ℕ → Draws (List ℕ)
+  after-refresh ys = bind (rule k j (drop 1 ys)) (after-u ys)
+
+  rule-is : (xs : List ℕ) → rule k i xs ≡ bind (refresh (boolean k) xs) after-refresh
+  unfolding rule after-refresh after-u after-z
+  rule-is xs = ap (λ (n : ℕ). rule k n xs) one
+
+  module _ (xs tape : List ℕ) (p : Cursor) where
+    pub refresh-ended : run (refresh (boolean k) xs) tape p ≡ ended → ended ≡ run (rule k i xs) tape p
+    refresh-ended = part-ended _ _ tape p (rule-is xs)
+
+    module _ (ys : List ℕ) {c : Cursor} (e : run (refresh (boolean k) xs) tape p ≡ ran ys c) where
+      refreshed : run (rule k i xs) tape p ≡ run (after-refresh ys) tape c
+      refreshed = part-ran _ _ tape p (rule-is xs) e
+
+      pub u-ended : run (rule k j (drop 1 ys)) tape c ≡ ended → ended ≡ run (rule k i xs) tape p
+      unfolding after-refresh
+      u-ended f = sym (refreshed ∙ bind-ended (rule k j (drop 1 ys)) (after-u ys) tape c f)
+
+      module _ {us : List ℕ} {d : Cursor} (f : run (rule k j (drop 1 ys)) tape c ≡ ran us d) where
+        after-first : run (rule k i xs) tape p ≡ run (after-u ys us) tape d
+        unfolding after-refresh
+        after-first = refreshed ∙ bind-ran (rule k j (drop 1 ys)) (after-u ys) tape c us d f
+
+        pub z-ended : run (rule k j (zOf k (length ys) (getD ys 0 0) (drop 1 ys))) tape d ≡ ended → ended ≡ run (rule k i xs) tape p
+        unfolding after-u
+        z-ended g = sym (after-first ∙ bind-ended (rule k j (zOf k (length ys) (getD ys 0 0) (drop 1 ys))) (after-z us) tape d g)
+
+        -- both results are there
+        pub rule-gave : {zs rs : List ℕ} {o : Cursor} → run (rule k j (zOf k (length ys) (getD ys 0 0) (drop 1 ys))) tape d ≡ ran zs o → rs ≡ added (2 ^ k) us zs →
+            ran rs o ≡ run (rule k i xs) tape p
+        unfolding after-u after-z
+        rule-gave {zs} {rs} {o} g h =
+            ap (λ ws. ran ws o) h
+            ∙ sym (after-first ∙ bind-ran (rule k j (zOf k (length ys) (getD ys 0 0) (drop 1 ys))) (after-z us) tape d zs o g ∙ run-done (added (2 ^ k) us zs) tape o)
+
+-- ---- few shares: the draws of their refresh one by one
+-- what x is: the run of d from the place p on
+pub record Left (x : Ran (List ℕ)) (d : Draws (List ℕ)) (tape : List ℕ) (p : Cursor) : Type 0 where
+  pub same : x ≡ run d tape p
+
+module _ {x : Ran (List ℕ)} {M : ℕ} {f : ℕ → Draws (List ℕ)} {tape : List ℕ} {p : Cursor} (l : Left x (draw M f) tape p) (d : Draw) (told : drawStandsFor d ≡ drawAt tape p M) where
+  pub draw-ended : d ≡ Ended → x ≡ ended
+  draw-ended e = l .same ∙ run-ended M f tape p (got-none d told e)
+
+  pub drew : {r : ℕ} {q : Cursor} → d ≡ Got r q → Left x (f r) tape q
+  drew e = record { same = l .same ∙ run-draw M f tape p _ _ (got d told e) }
+
+pub refresh-three : (k a b c : ℕ) (tape : List ℕ) (p : Cursor) →
+    Left (run (refresh (boolean k) (a ∷ b ∷ c ∷ [])) tape p) (draw (2 ^ k) (λ r. draw (2 ^ k) (λ v. done (xor a r ∷ xor b v ∷ xor (xor c r) v ∷ [])))) tape p
+unfolding refresh turn each turns bind move change
+refresh-three k a b c tape p = record { same = refl }
+
+-- the first words of an array, one by one
+pub listed : (n : ℕ) (ws : List ℕ) → n ≤ length ws → take n ws ≡ along (λ i x. getD ws i 0) (replicate n 0)
+listed n ws h =
+    let size : length (replicate n 0) ≡ n = length-replicate n 0 in
+    along-is _ (replicate n 0) (take n ws) (length-take-le n ws h ∙ sym size) (λ j l. getD-take n ws j 0 (omega arith))
+
+pub refresh-four : (k : ℕ) (ws tape : List ℕ) (p : Cursor) → 4 ≤ length ws →
+    Left (run (refresh (boolean k) (take 4 ws)) tape p)
+    (draw (2 ^ k) (λ r. draw (2 ^ k) (λ v. draw (2 ^ k) (λ w.
+    done (xor (getD ws 0 0) r ∷ xor (getD ws 1 0) v ∷ xor (getD ws 2 0) w ∷ xor (xor (xor (getD ws 3 0) r) v) w ∷ []))))) tape p
+unfolding refresh turn each turns bind move change along
+refresh-four k ws tape p h = record { same = ap (λ xs. run (refresh (boolean k) xs) tape p) (listed 4 ws h) }
+
+-- shares below 2^k are so after the refresh
+pub fresh-below : (n k : ℕ) (xs tape : List ℕ) (p : Cursor) (ys : List ℕ) {c : Cursor} → 0 < n → Words n (2 ^ k) xs → run (refresh (boolean k) xs) tape p ≡ ran ys c → Words n (2 ^ k) ys
+fresh-below n k xs tape p ys h w e = always-run (refresh-keeps (boolean k) (pow-pos k) _ xs h (record { words = w; is = refl }) .always) tape p e .words
+
+-- three shares, refreshed
 three-run : (k x y z : ℕ) (xs tape : List ℕ) (p c : Cursor) → run (refresh (boolean k) xs) tape p ≡ ran (x ∷ y ∷ z ∷ []) c →
     run (rule k 1 xs) tape p ≡ ran (xor y z ∷ xor (xor (psi k x y) x) (psi k x z) ∷ []) c
-unfolding rule
-three-run k x y z xs tape p c e = bind-ran (refresh (boolean k) xs) _ tape p (x ∷ y ∷ z ∷ []) c e ∙ three-rest k x y z tape c
+unfolding rule zOf psis added along change bind run
+three-run k x y z xs tape p c e = bind-ran (refresh (boolean k) xs) _ tape p (x ∷ y ∷ z ∷ []) c e
 
-three-cut : (k : ℕ) (xs tape : List ℕ) (p : Cursor) → ended ≡ run (refresh (boolean k) xs) tape p → ended ≡ run (rule k 1 xs) tape p
-unfolding rule
-three-cut k xs tape p e = sym (bind-ended (refresh (boolean k) xs) _ tape p (sym e))
-
-module _ (k : ℕ) {ws : List ℕ} (tape : List ℕ) (p : Cursor) (a : Held 9 3 (2 ^ k) ws) (d : Draw) (told : drawStandsFor d ≡ drawAt tape p (2 ^ k)) where
-  begun : Remaining (boolean k) 9 3 tape (run (refresh (boolean k) (take 3 ws)) tape p) 0 ws (getD ws 2 0) p
-  begun = remaining-start (boolean k) 9 3 ws tape p a
-
-  -- the tape has ended before the first draw
-  pub three-ended : d ≡ Ended → ended ≡ run (rule k 1 (take 3 ws)) tape p
-  three-ended e = three-cut k (take 3 ws) tape p (remaining-ended begun (omega arith) d told e)
-
-  module _ {r : ℕ} {q : Cursor} (e : d ≡ Got r q) (o : Draw) (more : drawStandsFor o ≡ drawAt tape q (2 ^ k)) where
-    one : Remaining (boolean k) 9 3 tape (run (refresh (boolean k) (take 3 ws)) tape p) 1 (set ws 0 (xor (getD ws 0 0) r)) (xor (getD ws 2 0) r) q
-    one = remaining-more begun (omega arith) d told e refl refl
-
-    -- or before the second
-    pub three-ended-later : o ≡ Ended → ended ≡ run (rule k 1 (take 3 ws)) tape p
-    three-ended-later f = three-cut k (take 3 ws) tape p (remaining-ended one (omega arith) o more f)
-
-    module _ {v : ℕ} {c : Cursor} (f : o ≡ Got v c) where
-      second : xor (getD ws 1 0) v ≡ xor (getD (set ws 0 (xor (getD ws 0 0) r)) 1 0) v
-      second = ap (λ y. xor y v) (sym (getD-set-other ws 0 1 (xor (getD ws 0 0) r) 0 (omega arith)))
-
-      two : Remaining (boolean k) 9 3 tape (run (refresh (boolean k) (take 3 ws)) tape p) 2
-          (set (set ws 0 (xor (getD ws 0 0) r)) 1 (xor (getD ws 1 0) v)) (xor (xor (getD ws 2 0) r) v) c
-      two = remaining-more one (omega arith) o more f second refl
-
-      -- it suffices
-      pub three-gave : {x y z : ℕ} → x ≡ xor (getD ws 0 0) r → y ≡ xor (getD ws 1 0) v → z ≡ xor (xor (getD ws 2 0) r) v → {s t u w : ℕ} → s ≡ psi k x y → t ≡ psi k x z →
-          u ≡ xor y z → w ≡ xor (xor s x) t → Given 8 2 (2 ^ k) true (u ∷ w ∷ replicate 6 0) c (run (rule k 1 (take 3 ws)) tape p)
-      three-gave {x} {y} {z} ex ey ez es et eu ew =
-          whole refl (words-cons (rw eu (xor-below k y z below-y below-z)) (words-cons (rw (ew, es, et) (xor-below k _ (psi k x z) (xor-below k (psi k x y) x (psi-below k x y) below-x) (psi-below k x z)))
-          (words-same (pow-pos k))))
-          (rw (eu, ew, es, et) (sym (three-run k x y z (take 3 ws) tape p c (sym (remaining-none two (omega arith)) ∙ ap (λ (l : List ℕ). ran l c) words))))
-        where
-          first-below : r < 2 ^ k
-          first-below = remaining-draw begun (omega arith) d told e
-
-          second-below : v < 2 ^ k
-          second-below = remaining-draw one (omega arith) o more f
-
-          below-x : x < 2 ^ k
-          below-x = rw ex (xor-below k _ r (held-at a 0) first-below)
-
-          below-y : y < 2 ^ k
-          below-y = rw ey (xor-below k _ v (held-at a 1) second-below)
-
-          below-z : z < 2 ^ k
-          below-z = rw ez (two .below)
-
-          words : take 3 (set (set (set ws 0 (xor (getD ws 0 0) r)) 1 (xor (getD ws 1 0) v)) 2 (xor (xor (getD ws 2 0) r) v)) ≡ x ∷ y ∷ z ∷ []
-          words = rw (ex, ey, ez) (three-words ws _ _ _ (a .all .size))
-
-pub rule-three : {s : ℕ} (k : ℕ) (ws tape : List ℕ) (p : Cursor) {ok : Bool} {words : List ℕ} {c : Cursor} → s ≡ 3 →
-    Given 8 2 (2 ^ k) ok words c (run (rule k 1 (take 3 ws)) tape p) → Given 8 (s - 1) (2 ^ k) ok words c (run (rule k (s - 2) (take s ws)) tape p)
-rule-three k ws tape p e g = rw e g
+pub three-gave : (k : ℕ) (xs tape : List ℕ) (p : Cursor) {x y z : ℕ} {c : Cursor} → Words 3 (2 ^ k) xs → Left (run (refresh (boolean k) xs) tape p) (done (x ∷ y ∷ z ∷ [])) tape c →
+    {s t u w : ℕ} → s ≡ psi k x y → t ≡ psi k x z → u ≡ xor y z → w ≡ xor (xor s x) t → Given 8 2 (2 ^ k) true (u ∷ w ∷ replicate 6 0) c (run (rule k 1 xs) tape p)
+three-gave k xs tape p {x} {y} {z} {c} a l es et eu ew =
+    let e : run (refresh (boolean k) xs) tape p ≡ ran (x ∷ y ∷ z ∷ []) c = l .same ∙ run-done _ tape c in
+    let all : Words 3 (2 ^ k) (x ∷ y ∷ z ∷ []) = fresh-below 3 k xs tape p _ (omega arith) a e in
+    whole refl
+    (words-cons (rw eu (xor-below k y z (all .below 1 (omega arith)) (all .below 2 (omega arith))))
+    (words-cons (rw (ew, es, et) (xor-below k _ (psi k x z) (xor-below k (psi k x y) x (psi-below k x y) (words-head all)) (psi-below k x z)))
+    (words-same (pow-pos k))))
+    (rw (eu, ew, es, et) (sym (three-run k x y z xs tape p c e)))
 
 -- U and Z are held as the shares were
 pub held-shorter : {s M : ℕ} {ws others : List ℕ} → Held 9 s M ws → 3 ≤ s → Words 9 M others → Held 9 (s - 1) M others
@@ -113,79 +135,31 @@ u-words {M} {fresh} h w c =
     let rest : Words 8 M (drop 1 fresh) = words-drop w in
     c .rest M h (subst (λ (n : ℕ). Words n M (drop 1 fresh)) (sym (rest .size)) rest)
 
--- three or more
-module _ {s : ℕ} (k : ℕ) (big : 3 ≤ s) where
-  unfoldable after-z : List ℕ → List ℕ → Draws (List ℕ)
-  after-z us zs = done (added (2 ^ k) us zs)
+-- the rule on them, where they stand in arrays
+module _ {s : ℕ} (big : 3 ≤ s) (fresh : List ℕ) {u : List ℕ} (size : length fresh ≡ 9) (most : s ≤ 9) (w : Copied 9 (drop 1 fresh) u) where
+  u-is : take (s - 1) u ≡ drop 1 (take s fresh)
+  u-is =
+      let one : suc (s - 1) ≡ s = omega arith in
+      copied-take (s - 1) w (omega (arith, length-drop 1 fresh)) ∙ take-rest (s - 1) fresh ∙ ap (λ (j : ℕ). drop 1 (take j fresh)) one
 
-  unfoldable after-u : List ℕ → List ℕ → Draws (List ℕ)
-  after-u ys us = bind (rule k (s - 1 - 2) (zOf k (length ys) (getD ys 0 0) (drop 1 ys))) (after-z us)
+  module _ (k j : ℕ) (tape : List ℕ) (c : Cursor) {x : Ran (List ℕ)} where
+    pub on-u : run (rule k j (take (s - 1) u)) tape c ≡ x → run (rule k j (drop 1 (take s fresh))) tape c ≡ x
+    on-u f = ap (λ xs. run (rule k j xs) tape c) (sym u-is) ∙ f
 
-  unfoldable after-refresh : List ℕ → Draws (List ℕ)
-  after-refresh ys = bind (rule k (s - 1 - 2) (drop 1 ys)) (after-u ys)
+    pub on-z : {z : List ℕ} → z ≡ zOf k s (getD fresh 0 0) u → run (rule k j (take (s - 1) z)) tape c ≡ x →
+        run (rule k j (zOf k (length (take s fresh)) (getD (take s fresh) 0 0) (drop 1 (take s fresh)))) tape c ≡ x
+    on-z {z} same g = ap (λ xs. run (rule k j xs) tape c) (sym z-is) ∙ g
+      where
+        z-is : take (s - 1) z ≡ zOf k (length (take s fresh)) (getD (take s fresh) 0 0) (drop 1 (take s fresh))
+        z-is = ap (take (s - 1)) same ∙ z-take (s - 1) k s (getD fresh 0 0) u (omega arith) ∙ rw (u-is, length-take-le s fresh (omega arith), getD-take s fresh 0 0 (omega arith))
 
-  rule-is : (xs : List ℕ) → rule k (s - 2) xs ≡ bind (refresh (boolean k) xs) after-refresh
-  unfolding rule after-refresh after-u after-z
-  rule-is xs = let e : s - 2 ≡ suc (s - 1 - 2) = omega arith in rw e
-
-  module _ (ws tape : List ℕ) (p : Cursor) where
-    pub refresh-ended : run (refresh (boolean k) (take s ws)) tape p ≡ ended → ended ≡ run (rule k (s - 2) (take s ws)) tape p
-    refresh-ended = part-ended _ _ tape p (rule-is (take s ws))
-
-    module _ (fresh : List ℕ) {u : List ℕ} {c : Cursor} (size : length fresh ≡ 9) (most : s ≤ 9) (e : run (refresh (boolean k) (take s ws)) tape p ≡ ran (take s fresh) c)
-        (w : Copied 9 (drop 1 fresh) u) where
-      -- U, in the array of its shares
-      u-is : take (s - 1) u ≡ drop 1 (take s fresh)
-      u-is =
-          let one : suc (s - 1) ≡ s = omega arith in
-          copied-take (s - 1) w (omega (arith, length-drop 1 fresh)) ∙ take-rest (s - 1) fresh ∙ ap (λ (j : ℕ). drop 1 (take j fresh)) one
-
-      refreshed : run (rule k (s - 2) (take s ws)) tape p ≡ run (after-refresh (take s fresh)) tape c
-      refreshed = part-ran _ _ tape p (rule-is (take s ws)) e
-
-      on-u : {x : Ran (List ℕ)} → run (rule k (s - 1 - 2) (take (s - 1) u)) tape c ≡ x → run (rule k (s - 1 - 2) (drop 1 (take s fresh))) tape c ≡ x
-      on-u f = ap (λ xs. run (rule k (s - 1 - 2) xs) tape c) (sym u-is) ∙ f
-
-      pub u-ended : run (rule k (s - 1 - 2) (take (s - 1) u)) tape c ≡ ended → ended ≡ run (rule k (s - 2) (take s ws)) tape p
-      unfolding after-refresh
-      u-ended f = sym (refreshed ∙ bind-ended (rule k (s - 1 - 2) (drop 1 (take s fresh))) (after-u (take s fresh)) tape c (on-u f))
-
-      module _ {us : List ℕ} {d : Cursor} (f : run (rule k (s - 1 - 2) (take (s - 1) u)) tape c ≡ ran us d) where
-        after-first : run (rule k (s - 2) (take s ws)) tape p ≡ run (after-u (take s fresh) us) tape d
-        unfolding after-refresh
-        after-first = refreshed ∙ bind-ran (rule k (s - 1 - 2) (drop 1 (take s fresh))) (after-u (take s fresh)) tape c us d (on-u f)
-
-        module _ {z : List ℕ} (same : z ≡ zOf k s (getD fresh 0 0) u) where
-          -- and Z
-          z-is : take (s - 1) z ≡ zOf k (length (take s fresh)) (getD (take s fresh) 0 0) (drop 1 (take s fresh))
-          z-is = ap (take (s - 1)) same ∙ z-take (s - 1) k s (getD fresh 0 0) u (omega arith) ∙ rw (u-is, length-take-le s fresh (omega arith), getD-take s fresh 0 0 (omega arith))
-
-          on-z : {x : Ran (List ℕ)} → run (rule k (s - 1 - 2) (take (s - 1) z)) tape d ≡ x →
-              run (rule k (s - 1 - 2) (zOf k (length (take s fresh)) (getD (take s fresh) 0 0) (drop 1 (take s fresh)))) tape d ≡ x
-          on-z g = ap (λ xs. run (rule k (s - 1 - 2) xs) tape d) (sym z-is) ∙ g
-
-          pub z-ended : run (rule k (s - 1 - 2) (take (s - 1) z)) tape d ≡ ended → ended ≡ run (rule k (s - 2) (take s ws)) tape p
-          unfolding after-u
-          z-ended g =
-              sym (after-first ∙ bind-ended (rule k (s - 1 - 2) (zOf k (length (take s fresh)) (getD (take s fresh) 0 0) (drop 1 (take s fresh)))) (after-z us) tape d (on-z g))
-
-          -- both results are there
-          rule-more : {zs rs : List ℕ} {o : Cursor} → run (rule k (s - 1 - 2) (take (s - 1) z)) tape d ≡ ran zs o → rs ≡ added (2 ^ k) us zs →
-              ran rs o ≡ run (rule k (s - 2) (take s ws)) tape p
-          unfolding after-u after-z
-          rule-more {zs} {rs} {o} g h =
-              ap (λ xs. ran xs o) h
-              ∙ sym (after-first ∙ bind-ran (rule k (s - 1 - 2) (zOf k (length (take s fresh)) (getD (take s fresh) 0 0) (drop 1 (take s fresh)))) (after-z us) tape d zs o (on-z g)
-              ∙ run-done (added (2 ^ k) us zs) tape o)
-
-      -- the same with the results in arrays
-      pub rule-gave : (first : List ℕ) {d : Cursor} → run (rule k (s - 1 - 2) (take (s - 1) u)) tape c ≡ ran (take (s - 1 - 1) first) d →
-          {z : List ℕ} → z ≡ zOf k s (getD fresh 0 0) u → (second : List ℕ) {o : Cursor} → run (rule k (s - 1 - 2) (take (s - 1) z)) tape d ≡ ran (take (s - 1 - 1) second) o →
-          (rs : List ℕ) → take (s - 2 + 1) rs ≡ added (2 ^ k) (take (s - 2) first) (take (s - 2) second) → ran (take (s - 1) rs) o ≡ run (rule k (s - 2) (take s ws)) tape p
-      rule-gave first f same second g rs h =
-          let more : s - 1 ≡ s - 2 + 1 = omega arith in
-          let fewer : s - 2 ≡ s - 1 - 1 = omega arith in
-          rule-more f same g (ap (λ (j : ℕ). take j rs) more ∙ h ∙ ap (λ (j : ℕ). added (2 ^ k) (take j first) (take j second)) fewer)
+-- the results added, in arrays
+pub results-added : {s : ℕ} (M : ℕ) (first second rs : List ℕ) → 3 ≤ s → take (s - 2 + 1) rs ≡ added M (take (s - 2) first) (take (s - 2) second) →
+    take (s - 1) rs ≡ added M (take (s - 1 - 1) first) (take (s - 1 - 1) second)
+results-added {s} M first second rs big h =
+    let more : s - 1 ≡ s - 2 + 1 = omega arith in
+    let fewer : s - 2 ≡ s - 1 - 1 = omega arith in
+    ap (λ (j : ℕ). take j rs) more ∙ h ∙ ap (λ (j : ℕ). added M (take j first) (take j second)) fewer
 
 -- ---- the zero share appended
 module _ {n : ℕ} (k : ℕ) {ws w : List ℕ} (a : Held 8 n (2 ^ k) ws) (c : Copied 9 ws w) where

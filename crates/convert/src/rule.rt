@@ -1,51 +1,30 @@
 // The rule of document 01, and the conversion, which applies it to the shares with a zero share after them.
+use super::few::of_four;
+use super::few::of_three;
 use super::nine::into_nine;
 use super::nine::refresh_nine;
 use params::Params;
 use psi::added;
-use psi::psi;
 use psi::u_of;
 use psi::z_of;
 use shares::Shared;
 use tape::Cursor;
-use tape::Draw;
-use words::power;
 ghost use Prim.Native.Nat.{_-_, _^_, _≤_};
 ghost use lib.ListN.{take};
 ghost use Rattle.draws.specs.Draws.{run};
 ghost use Rattle.shares.specs.Arrays.{Held, Gave};
 ghost use Rattle.convert.specs.ToArithmetic.{rule, toArithmetic};
 
-// The rule on three shares, x, y and z once they are refreshed. U is (y, z), and Z has two shares too; two shares give one, their exclusive or. Half of
-// all calls of the rule end here, so it is made without arrays.
-fn of_three(shares: [u32; 9], k: u32, cursor: Cursor, tape: &[u32]) -> Shared
-    requires { ⌜ (k ≤ 31) × Held 9 3 (2 ^ k) shares ⌝ }
-    ensures { λ r. ⌜ Gave 2 (2 ^ k) r (run (rule k 1 (take 3 shares)) (now (tape .entry)) cursor) ⌝ }
-{
-    let m = power(k);
-    let Draw::Got(r, next) = cursor.draw(tape, m) else {
-        return Shared::ended();
-    };
-    let Draw::Got(v, after) = next.draw(tape, m) else {
-        return Shared::ended();
-    };
-    let x = shares[0] ^ r;
-    let y = shares[1] ^ v;
-    let z = shares[2] ^ r ^ v;
-    Shared {
-        words: [y ^ z, psi(x, y, k) ^ x ^ psi(x, z, k), 0, 0, 0, 0, 0, 0],
-        cursor: after,
-        ok: true,
-    }
-}
-
-// With four shares or more the rule calls itself on U and then on Z, one share fewer each time.
+// With five shares or more the rule calls itself on U and then on Z, one share fewer each time.
 fn rule(shares: [u32; 9], s: usize, k: u32, cursor: Cursor, tape: &[u32]) -> Shared
     requires { ⌜ (k ≤ 31) × (3 ≤ s) × Held 9 s (2 ^ k) shares ⌝ }
     ensures { λ r. ⌜ Gave (s - 1) (2 ^ k) r (run (rule k (s - 2) (take s shares)) (now (tape .entry)) cursor) ⌝ }
 {
     if s == 3 {
-        return of_three(shares, k, cursor, tape);
+        return of_three(shares[0], shares[1], shares[2], k, cursor, tape);
+    }
+    if s == 4 {
+        return of_four(shares, k, cursor, tape);
     }
     let refreshed = refresh_nine(shares, s, k, cursor, tape);
     if !refreshed.ok {

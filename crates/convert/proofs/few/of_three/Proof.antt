@@ -6,9 +6,9 @@ use Rattle.numbers.specs.Modulo.{xor}
 use Rattle.tape.specs.Tape.{drawAt}
 use Rattle.tape.specs.Answers.{drawStandsFor}
 use Rattle.shares.proofs.ArraysLaws.{cut-off}
-use Rattle.convert.proofs.RuleLaws.{three-ended, three-ended-later, three-gave}
-use Rattle.convert.proofs.rule.of_three.Statement.{statement}
-use Rattle.convert.proofs.rule.of_three.Tie as tie
+use Rattle.convert.proofs.RuleLaws.{Left, draw-ended, drew, refresh-three, refresh-ended, three-gave}
+use Rattle.convert.proofs.few.of_three.Statement.{statement}
+use Rattle.convert.proofs.few.of_three.Tie as tie
 
 -- draws below m are below 2^k
 told : (c : tie.After-draw) → let s = c .before .before .before in drawStandsFor (c .draw .result) ≡ drawAt (now (s .args .tape)) (s .args .cursor) (2 ^ s .args .k)
@@ -32,7 +32,7 @@ ended-requires c κs = search needs
 returns : tie.Need-returns
 returns c =
     let d = c .before .before .before in
-    cut-off (c .ended .ensures) (three-ended _ _ _ (d .before .before .before .pre .1) _ (told d) (c .before .enum-told .given .1))
+    cut-off (c .ended .ensures) (refresh-ended _ refl _ _ _ (draw-ended (refresh-three _ _ _ _ _ _) _ (told d) (c .before .enum-told .given .1)))
 
 draw-requires-2 : tie.Need-draw-requires-2
 draw-requires-2 c κs = let p = c .before .before .before .before in rw (p .power .ensures) (p .before .before .pre .1 .two)
@@ -51,17 +51,8 @@ returns-2 c =
     let o = c .before .before .before in
     let g = o .before .before in
     let d = g .before .before in
-    cut-off (c .ended2 .ensures) (three-ended-later _ _ _ (d .before .before .before .pre .1) _ (told d) (g .r .given .1) _
-    (o .draw2 .ensures ∙ ap (drawAt _ _) (d .before .power .ensures)) (c .before .enum-told2 .given .1))
-
-array-read-x : tie.Need-array-read-x
-array-read-x c = search needs
-
-array-read-y : tie.Need-array-read-y
-array-read-y c = search needs
-
-array-read-z : tie.Need-array-read-z
-array-read-z c = search needs
+    cut-off (c .ended2 .ensures) (refresh-ended _ refl _ _ _ (draw-ended (drew (refresh-three _ _ _ _ _ _) _ (told d) (g .r .given .1)) _
+    (o .draw2 .ensures ∙ ap (drawAt _ _) (d .before .power .ensures)) (c .before .enum-told2 .given .1)))
 
 psi-requires : tie.Need-psi-requires
 psi-requires c κs = search needs
@@ -76,8 +67,9 @@ returns-3 c =
     let o = h .before .before in
     let g = o .before .before in
     let d = g .before .before in
-    three-gave _ _ _ (d .before .before .before .pre .1) _ (told d) (g .r .given .1) _
-    (o .draw2 .ensures ∙ ap (drawAt _ _) (d .before .power .ensures)) (h .v .given .1) refl refl refl (c .before .psi .ensures) (c .psi2 .ensures) refl refl
+    three-gave _ _ _ _ (d .before .before .before .pre .1 .all)
+    (drew (drew (refresh-three _ _ _ _ _ _) _ (told d) (g .r .given .1)) _ (o .draw2 .ensures ∙ ap (drawAt _ _) (d .before .power .ensures)) (h .v .given .1))
+    (c .before .psi .ensures) (c .psi2 .ensures) refl refl
 
 pub of-three-spec : {M : Type 1} → statement M
 of-three-spec =
@@ -94,9 +86,6 @@ of-three-spec =
     enum-told-2
     ended-requires-2
     returns-2
-    array-read-x
-    array-read-y
-    array-read-z
     psi-requires
     psi-requires-2
     returns-3)
