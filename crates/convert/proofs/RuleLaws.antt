@@ -3,15 +3,16 @@ use mathlib.Core.Path.{_≡_, refl, sym, ap, ap₂, subst, _∙_}
 use mathlib.Core.Bool.{Bool, true}
 use mathlib.Core.List.{List, [], _∷_, _++_}
 use Prim.Native.Nat.{ℕ, suc, _+_, _-_, _^_, _≤_, _<_}
+use native.Mathlib.Nat.{mod-lt}
 use native.Mathlib.Numerals.{add-one}
 use native.Mathlib.Omega.{arith}
 use lib.ListN.{length, getD, set, take, drop, replicate, length-drop, length-replicate}
 use lib.Pow.{pow-pos}
-use lib.Seq.{getD-take, length-take-le, take-suc-set, getD-set-other}
-use Rattle.numbers.specs.Modulo.{xor}
+use lib.Seq.{getD-take, length-take-le, take-suc-set}
+use Rattle.numbers.specs.Modulo.{addMod, xor}
 use Rattle.numbers.specs.Lists.{Words, change, along}
 use Rattle.numbers.proofs.XorLaws.{xor-below}
-use Rattle.numbers.proofs.WordsLaws.{words-head, words-cons, words-drop, words-set, words-same, take-rest}
+use Rattle.numbers.proofs.WordsLaws.{words-head, words-cons, words-take, words-drop, words-set, words-same, take-rest}
 use Rattle.numbers.proofs.AlongLaws.{along-is}
 use Rattle.tape.specs.declared.Cursor.{Cursor}
 use Rattle.tape.specs.declared.Draw.{Draw}
@@ -25,7 +26,7 @@ use Rattle.draws.proofs.PlanLaws.{always-run}
 use Rattle.shares.specs.Sharing.{boolean, move}
 use Rattle.shares.specs.Refresh.{turn, refresh}
 use Rattle.shares.specs.Arrays.{Held, Copied, Given}
-use Rattle.shares.proofs.ArraysLaws.{held-at, copied-take, held-copied, given-as, whole}
+use Rattle.shares.proofs.ArraysLaws.{copied-take, held-copied, given-as, whole}
 use Rattle.shares.proofs.RefreshLaws.{refresh-keeps}
 use Rattle.psi.specs.Psi.{psi, psis, zOf, added}
 use Rattle.convert.specs.ToArithmetic.{rule, toArithmetic}
@@ -75,8 +76,12 @@ module _ (k : ℕ) {i j : ℕ} (one : i ≡ suc j) where
             ap (λ ws. ran ws o) h
             ∙ sym (after-first ∙ bind-ran (rule k j (zOf k (length ys) (getD ys 0 0) (drop 1 ys))) (after-z us) tape d zs o g ∙ run-done (added (2 ^ k) us zs) tape o)
 
+-- what the rule gives of shares, it gives of the same shares
+pub same-shares : (k j : ℕ) (tape : List ℕ) (c : Cursor) {xs ys : List ℕ} {x : Ran (List ℕ)} → xs ≡ ys → run (rule k j xs) tape c ≡ x → run (rule k j ys) tape c ≡ x
+same-shares k j tape c e f = ap (λ zs. run (rule k j zs) tape c) (sym e) ∙ f
+
 -- ---- few shares: the draws of their refresh one by one
--- what x is: the run of d from the place p on
+-- what is left of x: to run d from the place p on
 pub record Left (x : Ran (List ℕ)) (d : Draws (List ℕ)) (tape : List ℕ) (p : Cursor) : Type 0 where
   pub same : x ≡ run d tape p
 
@@ -95,15 +100,18 @@ refresh-three k a b c tape p = record { same = refl }
 -- the first words of an array, one by one
 pub listed : (n : ℕ) (ws : List ℕ) → n ≤ length ws → take n ws ≡ along (λ i x. getD ws i 0) (replicate n 0)
 listed n ws h =
-    let size : length (replicate n 0) ≡ n = length-replicate n 0 in
-    along-is _ (replicate n 0) (take n ws) (length-take-le n ws h ∙ sym size) (λ j l. getD-take n ws j 0 (omega arith))
+    let zeros : List ℕ = replicate n 0 in
+    let size : length zeros ≡ n = length-replicate n 0 in
+    along-is _ zeros (take n ws) (length-take-le n ws h ∙ sym size) (λ j l. getD-take n ws j 0 (omega arith))
 
-pub refresh-four : (k : ℕ) (ws tape : List ℕ) (p : Cursor) → 4 ≤ length ws →
-    Left (run (refresh (boolean k) (take 4 ws)) tape p)
-    (draw (2 ^ k) (λ r. draw (2 ^ k) (λ v. draw (2 ^ k) (λ w.
-    done (xor (getD ws 0 0) r ∷ xor (getD ws 1 0) v ∷ xor (getD ws 2 0) w ∷ xor (xor (xor (getD ws 3 0) r) v) w ∷ []))))) tape p
+-- four shares as the refresh makes them, by the draws r, v and w
+abbrev pub four : List ℕ → ℕ → ℕ → ℕ → List ℕ
+four ws r v w = xor (getD ws 0 0) r ∷ xor (getD ws 1 0) v ∷ xor (getD ws 2 0) w ∷ xor (xor (xor (getD ws 3 0) r) v) w ∷ []
+
+pub refresh-four : (k : ℕ) (ws tape : List ℕ) (p : Cursor) → length ws ≡ 9 →
+    Left (run (refresh (boolean k) (take 4 ws)) tape p) (draw (2 ^ k) (λ r. draw (2 ^ k) (λ v. draw (2 ^ k) (λ w. done (four ws r v w))))) tape p
 unfolding refresh turn each turns bind move change along
-refresh-four k ws tape p h = record { same = ap (λ xs. run (refresh (boolean k) xs) tape p) (listed 4 ws h) }
+refresh-four k ws tape p h = record { same = ap (λ xs. run (refresh (boolean k) xs) tape p) (listed 4 ws (omega arith)) }
 
 -- shares below 2^k are so after the refresh
 pub fresh-below : (n k : ℕ) (xs tape : List ℕ) (p : Cursor) (ys : List ℕ) {c : Cursor} → 0 < n → Words n (2 ^ k) xs → run (refresh (boolean k) xs) tape p ≡ ran ys c → Words n (2 ^ k) ys
@@ -126,6 +134,42 @@ three-gave k xs tape p {x} {y} {z} {c} a l es et eu ew =
     (words-same (pow-pos k))))
     (rw (eu, ew, es, et) (sym (three-run k x y z xs tape p c e)))
 
+-- four shares, refreshed: Z, and two results of two words added
+pub four-z : (k x a b c : ℕ) {s t u : ℕ} → s ≡ psi k x a → t ≡ psi k x b → u ≡ psi k x c → s ∷ t ∷ u ∷ [] ≡ zOf k 4 x (a ∷ b ∷ c ∷ [])
+unfolding zOf psis along
+four-z k x a b c es et eu = rw (es, et, eu)
+
+module _ (k : ℕ) {us zs : List ℕ} {s : ℕ} (e : s ≡ addMod (2 ^ k) (getD us 0 0) (getD zs 0 0)) (u : Words 8 (2 ^ k) us) (z : Words 8 (2 ^ k) zs) where
+  pub four-added : s ∷ getD us 1 0 ∷ getD zs 1 0 ∷ [] ≡ added (2 ^ k) (take 2 us) (take 2 zs)
+  unfolding added along
+  four-added = rw e (sym (ap₂ (added (2 ^ k)) (listed 2 us (omega (arith, u .size))) (listed 2 zs (omega (arith, z .size)))))
+
+  pub four-below : Words 8 (2 ^ k) (s ∷ getD us 1 0 ∷ getD zs 1 0 ∷ replicate 5 0)
+  unfolding addMod
+  four-below =
+      words-cons (rw e (mod-lt _ (pow-pos k))) (words-cons (u .below 1 (omega arith)) (words-cons (z .below 1 (omega arith)) (words-same (pow-pos k))))
+
+-- three shares of their own
+pub three-held : {M : ℕ} {xs : List ℕ} → 2 ≤ M → Words 3 M xs → Held 3 3 M xs
+three-held h w = record { least = omega arith; most = omega arith; two = h; all = w }
+
+-- three of nine words, one by one
+module _ {s : ℕ} (k : ℕ) {ws : List ℕ} (a : Held 9 s (2 ^ k) ws) (e : s ≡ 3) where
+  three-listed : take 3 ws ≡ getD ws 0 0 ∷ getD ws 1 0 ∷ getD ws 2 0 ∷ []
+  unfolding along
+  three-listed = listed 3 ws (omega (arith, a .all .size))
+
+  pub three-asked : Held 3 3 (2 ^ k) (getD ws 0 0 ∷ getD ws 1 0 ∷ getD ws 2 0 ∷ [])
+  three-asked = three-held (a .two) (subst (Words 3 (2 ^ k)) three-listed (words-take 3 (omega arith) (a .all)))
+
+  pub rule-three : (tape : List ℕ) (p : Cursor) {ok : Bool} {words : List ℕ} {c : Cursor} → Given 8 2 (2 ^ k) ok words c (run (rule k 1 (getD ws 0 0 ∷ getD ws 1 0 ∷ getD ws 2 0 ∷ [])) tape p) →
+      Given 8 (s - 1) (2 ^ k) ok words c (run (rule k (s - 2) (take s ws)) tape p)
+  rule-three tape p g = rw e (given-as g (ap (λ xs. run (rule k 1 xs) tape p) (sym three-listed)))
+
+pub rule-four : {s : ℕ} (k : ℕ) (ws tape : List ℕ) (p : Cursor) {ok : Bool} {words : List ℕ} {c : Cursor} → s ≡ 4 →
+    Given 8 3 (2 ^ k) ok words c (run (rule k 2 (take 4 ws)) tape p) → Given 8 (s - 1) (2 ^ k) ok words c (run (rule k (s - 2) (take s ws)) tape p)
+rule-four k ws tape p e g = rw e g
+
 -- U and Z are held as the shares were
 pub held-shorter : {s M : ℕ} {ws others : List ℕ} → Held 9 s M ws → 3 ≤ s → Words 9 M others → Held 9 (s - 1) M others
 held-shorter a big w = record { least = omega arith; most = omega (arith, a .most); two = a .two; all = w }
@@ -135,23 +179,16 @@ u-words {M} {fresh} h w c =
     let rest : Words 8 M (drop 1 fresh) = words-drop w in
     c .rest M h (subst (λ (n : ℕ). Words n M (drop 1 fresh)) (sym (rest .size)) rest)
 
--- the rule on them, where they stand in arrays
+-- U, and Z, in the arrays of their shares
 module _ {s : ℕ} (big : 3 ≤ s) (fresh : List ℕ) {u : List ℕ} (size : length fresh ≡ 9) (most : s ≤ 9) (w : Copied 9 (drop 1 fresh) u) where
-  u-is : take (s - 1) u ≡ drop 1 (take s fresh)
+  pub u-is : take (s - 1) u ≡ drop 1 (take s fresh)
   u-is =
       let one : suc (s - 1) ≡ s = omega arith in
       copied-take (s - 1) w (omega (arith, length-drop 1 fresh)) ∙ take-rest (s - 1) fresh ∙ ap (λ (j : ℕ). drop 1 (take j fresh)) one
 
-  module _ (k j : ℕ) (tape : List ℕ) (c : Cursor) {x : Ran (List ℕ)} where
-    pub on-u : run (rule k j (take (s - 1) u)) tape c ≡ x → run (rule k j (drop 1 (take s fresh))) tape c ≡ x
-    on-u f = ap (λ xs. run (rule k j xs) tape c) (sym u-is) ∙ f
-
-    pub on-z : {z : List ℕ} → z ≡ zOf k s (getD fresh 0 0) u → run (rule k j (take (s - 1) z)) tape c ≡ x →
-        run (rule k j (zOf k (length (take s fresh)) (getD (take s fresh) 0 0) (drop 1 (take s fresh)))) tape c ≡ x
-    on-z {z} same g = ap (λ xs. run (rule k j xs) tape c) (sym z-is) ∙ g
-      where
-        z-is : take (s - 1) z ≡ zOf k (length (take s fresh)) (getD (take s fresh) 0 0) (drop 1 (take s fresh))
-        z-is = ap (take (s - 1)) same ∙ z-take (s - 1) k s (getD fresh 0 0) u (omega arith) ∙ rw (u-is, length-take-le s fresh (omega arith), getD-take s fresh 0 0 (omega arith))
+  pub z-is : (k : ℕ) {z : List ℕ} → z ≡ zOf k s (getD fresh 0 0) u → take (s - 1) z ≡ zOf k (length (take s fresh)) (getD (take s fresh) 0 0) (drop 1 (take s fresh))
+  z-is k same =
+      ap (take (s - 1)) same ∙ z-take (s - 1) k s (getD fresh 0 0) u (omega arith) ∙ rw (u-is, length-take-le s fresh (omega arith), getD-take s fresh 0 0 (omega arith))
 
 -- the results added, in arrays
 pub results-added : {s : ℕ} (M : ℕ) (first second rs : List ℕ) → 3 ≤ s → take (s - 2 + 1) rs ≡ added M (take (s - 2) first) (take (s - 2) second) →

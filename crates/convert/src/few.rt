@@ -1,4 +1,4 @@
-// The rule on few shares. Half of all calls of the rule have three shares, and half of the others four, so both are made without arrays.
+// The rule on few shares, without arrays: of all calls of the rule half have three shares, where it ends, and half of the others four, right above these.
 use psi::psi;
 use shares::Shared;
 use tape::Cursor;
@@ -63,17 +63,11 @@ pub fn of_four(shares: [u32; 9], k: u32, cursor: Cursor, tape: &[u32]) -> Shared
         return Shared::ended();
     }
     let after_z = of_z.cursor;
+    let sum = add_mod(of_u.words[0], of_z.words[0], m);
+    let u = of_u.words[1];
+    let z = of_z.words[1];
     Shared {
-        words: [
-            add_mod(of_u.words[0], of_z.words[0], m),
-            of_u.words[1],
-            of_z.words[1],
-            0,
-            0,
-            0,
-            0,
-            0,
-        ],
+        words: [sum, u, z, 0, 0, 0, 0, 0],
         cursor: after_z,
         ok: true,
     }

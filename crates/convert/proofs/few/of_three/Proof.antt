@@ -6,7 +6,7 @@ use Rattle.numbers.specs.Modulo.{xor}
 use Rattle.tape.specs.Tape.{drawAt}
 use Rattle.tape.specs.Answers.{drawStandsFor}
 use Rattle.shares.proofs.ArraysLaws.{cut-off}
-use Rattle.convert.proofs.RuleLaws.{Left, draw-ended, drew, refresh-three, refresh-ended, three-gave}
+use Rattle.convert.proofs.RuleLaws.{draw-ended, drew, refresh-three, refresh-ended, three-gave}
 use Rattle.convert.proofs.few.of_three.Statement.{statement}
 use Rattle.convert.proofs.few.of_three.Tie as tie
 
