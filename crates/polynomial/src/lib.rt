@@ -1,7 +1,8 @@
 // Sampling of a mask in shares: the 256 coefficients of a polynomial, each in its row of the caller's slice.
 use copies::copy_out;
+use lowering::close_less;
 use params::Params;
-use sample::coefficient;
+use sample::drawn_mod_q;
 use tape::Cursor;
 ghost use mathlib.Core.Path.{_≡_};
 ghost use Prim.Native.Nat.{_*_, _≤_};
@@ -19,12 +20,18 @@ pub enum Written {
     Ended,
 }
 
-// Fills the lent row with one coefficient.
+// Fills the lent row with one coefficient. The pass that closes it also takes γ1 − 1 off: it reads the shares where the conversion left them.
 fn write_row(p: Params, n: usize, cursor: Cursor, tape: &[u32], row: &mut [u32]) -> Written
     requires { ⌜ Laws p × (2 ≤ n) × (n ≤ 8) × (length (now row) ≡ n) ⌝ }
     ensures { λ r. ⌜ writtenStandsFor r (now (row .exit)) ≡ run (coefficient p n) (now (tape .entry)) cursor ⌝ }
 {
-    let s = coefficient(p, n, cursor, tape);
+    let s = close_less(
+        drawn_mod_q(p, n, cursor, tape),
+        p.gamma1 - 1,
+        n,
+        Params::Q,
+        tape,
+    );
     if !s.ok {
         return Written::Ended;
     }

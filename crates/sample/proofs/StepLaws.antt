@@ -1,33 +1,38 @@
--- Laws of the steps of one coefficient.
-use mathlib.Core.Path.{_≡_, refl, sym, _∙_}
+-- Laws of the steps of one coefficient: what was drawn and converted, and the pass that takes γ1 − 1 off and closes.
+use mathlib.Core.Path.{_≡_, sym, ap, _∙_}
+use mathlib.Core.Bool.{true}
 use mathlib.Core.List.{List}
-use Prim.Native.Nat.{ℕ}
+use Prim.Native.Nat.{ℕ, _-_, _≤_, _<_}
+use native.Mathlib.Omega.{arith}
 use Rattle.numbers.specs.Modulo.{q}
 use Rattle.params.specs.declared.Params.{Params}
+use Rattle.params.specs.Laws.{Laws}
+use Rattle.params.proofs.RoomLaws.{mask-small}
 use Rattle.tape.specs.declared.Cursor.{Cursor}
-use Rattle.tape.specs.Tape.{ended, ran}
-use Rattle.draws.specs.Draws.{run}
+use Rattle.tape.specs.Tape.{Ran}
+use Rattle.draws.specs.Draws.{Draws, bind, next, run}
 use Rattle.draws.specs.Plan.{drawAll}
-use Rattle.draws.proofs.RunLaws.{part-ran, part-ended, bind-ended, bind-ran}
+use Rattle.draws.proofs.RunLaws.{bind-assoc, run-bind}
+use Rattle.shares.specs.declared.Shared.{Shared}
 use Rattle.shares.specs.Sharing.{arithmetic}
 use Rattle.shares.specs.Refresh.{refresh}
+use Rattle.shares.specs.Arrays.{Held, shared, Gave}
+use Rattle.shares.proofs.ArraysLaws.{given-as}
+use Rattle.first.specs.First.{takeFromFirst}
 use Rattle.switching.specs.ToModulus.{toModulus}
 use Rattle.sample.specs.Sampling.{lowered, maskPlan, coefficient}
 
-module _ (p : Params) (n : ℕ) (tape : List ℕ) (c : Cursor) where
-  -- the tape ended in the draws of the mask
-  pub drawn-ended : run (drawAll (maskPlan p n)) tape c ≡ ended → ended ≡ run (coefficient p n) tape c
-  unfolding coefficient
-  drawn-ended e = part-ended (drawAll (maskPlan p n)) _ tape c refl e
+-- what was drawn and converted may be closed with γ1 − 1 taken off
+pub may-close : {p : Params} {n : ℕ} {s : Shared} → Laws p → 2 ≤ n → n ≤ 8 → {x : Ran (List ℕ)} → Gave n q s x → (p .gamma1 - 1 < q) × (s .ok ≡ true → Held 8 n q (s .words))
+may-close l least most g = (omega (arith, mask-small l), λ t. record { least = least; most = most; two = omega arith; all = g .below t })
 
-  module _ {xs : List ℕ} {d : Cursor} (drawn : run (drawAll (maskPlan p n)) tape c ≡ ran xs d) where
-    -- or in the conversion
-    pub converted-ended : run (toModulus q (p .mu) xs) tape d ≡ ended → ended ≡ run (coefficient p n) tape c
-    unfolding coefficient
-    converted-ended e = sym (part-ran (drawAll (maskPlan p n)) _ tape c refl drawn ∙ bind-ended (toModulus q (p .mu) xs) _ tape d e)
-
-    -- or not
-    pub closes : {ys : List ℕ} {f : Cursor} → run (toModulus q (p .mu) xs) tape d ≡ ran ys f →
-        run (refresh (arithmetic q) (lowered (p .gamma1) ys)) tape f ≡ run (coefficient p n) tape c
-    unfolding coefficient
-    closes {ys} {f} e = sym (part-ran (drawAll (maskPlan p n)) _ tape c refl drawn ∙ bind-ran (toModulus q (p .mu) xs) _ tape d ys f e)
+-- and that is the coefficient
+pub closed : (p : Params) (n : ℕ) (tape : List ℕ) (c : Cursor) {s r : Shared} → Gave n q s (run (bind (drawAll (maskPlan p n)) (toModulus q (p .mu))) tape c) →
+    Gave n q r (next (shared n s) (λ xs d. run (refresh (arithmetic q) (takeFromFirst (arithmetic q) (p .gamma1 - 1) xs)) tape d)) → Gave n q r (run (coefficient p n) tape c)
+unfolding lowered coefficient
+closed p n tape c g a =
+    let drawn : Draws (List ℕ) = drawAll (maskPlan p n) in
+    given-as a
+    (ap (λ (x : Ran (List ℕ)). next x (λ xs d. run (refresh (arithmetic q) (lowered (p .gamma1) xs)) tape d)) (g .is)
+    ∙ sym (run-bind (bind drawn (toModulus q (p .mu))) _ tape c)
+    ∙ ap (λ (d : Draws (List ℕ)). run d tape c) (bind-assoc drawn (toModulus q (p .mu)) _))

@@ -1,8 +1,6 @@
-// Sampling of a mask in shares: one coefficient.
-use first::take_from_first;
+// Sampling of a mask in shares: one coefficient, up to the pass that closes it.
 use params::Params;
 use shares::Shared;
-use shares::refresh;
 use switching::to_modulus;
 use tape::Cursor;
 use tape::Draw;
@@ -11,10 +9,11 @@ ghost use Prim.Native.Nat.{_^_, _≤_};
 ghost use lib.ListN.{replicate};
 ghost use Rattle.numbers.specs.Modulo.{q};
 ghost use Rattle.params.specs.Laws.{Laws};
-ghost use Rattle.draws.specs.Draws.{run};
+ghost use Rattle.draws.specs.Draws.{bind, run};
 ghost use Rattle.draws.specs.Plan.{drawAll};
 ghost use Rattle.shares.specs.Arrays.{Gave};
-ghost use Rattle.sample.specs.Sampling.{coefficient};
+ghost use Rattle.switching.specs.ToModulus.{toModulus};
+ghost use Rattle.sample.specs.Sampling.{maskPlan};
 
 // n words below 2^mu: the Boolean shares of a number that nobody holds.
 fn draw_shares(n: usize, mu: u32, cursor: Cursor, tape: &[u32]) -> Shared
@@ -38,9 +37,11 @@ fn draw_shares(n: usize, mu: u32, cursor: Cursor, tape: &[u32]) -> Shared
     }
 }
 
-pub fn coefficient(p: Params, n: usize, cursor: Cursor, tape: &[u32]) -> Shared
+// They are converted where they were drawn. What is left of a coefficient, γ1 − 1 taken from the first share and the closing refresh, is one pass of the
+// caller's, `lowering::close_less`, so that no array is copied in between.
+pub fn drawn_mod_q(p: Params, n: usize, cursor: Cursor, tape: &[u32]) -> Shared
     requires { ⌜ Laws p × (2 ≤ n) × (n ≤ 8) ⌝ }
-    ensures { λ r. ⌜ Gave n q r (run (coefficient p n) (now (tape .entry)) cursor) ⌝ }
+    ensures { λ r. ⌜ Gave n q r (run (bind (drawAll (maskPlan p n)) (toModulus q (p .mu))) (now (tape .entry)) cursor) ⌝ }
 {
     let drawn = draw_shares(n, p.mu, cursor, tape);
     if !drawn.ok {
@@ -48,12 +49,5 @@ pub fn coefficient(p: Params, n: usize, cursor: Cursor, tape: &[u32]) -> Shared
     }
     let x = drawn.words;
     let c = drawn.cursor;
-    let converted = to_modulus(x, n, p.mu, Params::Q, c, tape);
-    if !converted.ok {
-        return Shared::ended();
-    }
-    let y = converted.words;
-    let after = converted.cursor;
-    let lowered = take_from_first(y, p.gamma1 - 1, Params::Q);
-    refresh(lowered, n, Params::Q, after, tape)
+    to_modulus(x, n, p.mu, Params::Q, c, tape)
 }

@@ -6,10 +6,11 @@ use copies::clear;
 use gate::Answer;
 use gate::finish;
 use gate::refused;
+use lowering::close_less;
 use params::Params;
 use polynomial::Written;
 use polynomial::polynomial;
-use sample::coefficient;
+use sample::drawn_mod_q;
 use tape::Cursor;
 ghost use mathlib.Core.Path.{_≡_};
 ghost use Prim.Native.Nat.{_*_, _≤_};
@@ -22,13 +23,23 @@ ghost use Rattle.gate.specs.Told.{silentRan, ranTold, standsFor};
 ghost use Rattle.gate.specs.Sampler.{samples};
 ghost use Rattle.samplers.specs.Samplers.{sampler, polynomialSampler};
 
+// The pass that closes also takes γ1 − 1 off: it reads the shares where the conversion left them.
 pub fn sample(tape: &[u32], n: usize, set: u32, out: &mut [u32]) -> Answer
     ensures { λ r. ⌜ standsFor r (now (out .exit)) ≡ samples (sampler set) n (now (tape .entry)) (now (out .entry)) ⌝ }
 {
     let number = first_of_three(n, 1, out.len(), Params::known(set));
     match admit(set, number) {
         Admitted::Refused(k) => refused(k),
-        Admitted::Set(p) => finish(coefficient(p, n, Cursor::start(), tape), out),
+        Admitted::Set(p) => finish(
+            close_less(
+                drawn_mod_q(p, n, Cursor::start(), tape),
+                p.gamma1 - 1,
+                n,
+                Params::Q,
+                tape,
+            ),
+            out,
+        ),
     }
 }
 

@@ -1,13 +1,14 @@
 use borrow.Author.Needs.{needs}
 use mathlib.Core.Path.{_≡_, sym, ap, ap₂, _∙_}
 use mathlib.Core.List.{[]}
-use Prim.Native.Nat.{ℕ, _*_}
+use Prim.Native.Nat.{ℕ, _*_, _≤_}
 use native.Mathlib.Nat.{one-mul}
 use native.Mathlib.Omega.{arith}
 use lib.ListN.{length}
 use denote.Ref.{now}
 use Rattle.params.specs.declared.Params.{Params}
 use Rattle.params.specs.Sets.{known}
+use Rattle.params.specs.Laws.{Laws}
 use Rattle.tape.specs.declared.Cursor.{Cursor}
 use Rattle.tape.specs.Tape.{start}
 use Rattle.draws.specs.Draws.{run}
@@ -17,6 +18,7 @@ use Rattle.checks.proofs.CheckLaws.{AllPassed, all-checked, range-checked}
 use Rattle.checks.proofs.AdmitLaws.{not-admitted, Good, good}
 use Rattle.gate.proofs.GadgetLaws.{sampler-refused, sampler-ran}
 use Rattle.sample.specs.Sampling.{coefficient}
+use Rattle.sample.proofs.StepLaws.{may-close, closed}
 use Rattle.samplers.specs.Samplers.{sampler}
 use Rattle.samplers.proofs.sample.Statement.{statement}
 use Rattle.samplers.proofs.sample.Tie as tie
@@ -37,6 +39,12 @@ admitted : (c : tie.After-p) →
     let m = c .before .before in
     Good (m .before .first-of-three .result) (m .before .before .before .before .before .args .set) (c .p .given .0 .0)
 admitted c = let m = c .before .before in good _ _ (λ e. passed (m .before) e .range) _ (m .admit .ensures) (c .p .given .1)
+
+-- what the steps ask of the set and of n
+asked : (c : tie.After-p) → let n = c .before .before .before .before .before .before .before .args .n in Laws (c .p .given .0 .0) × (2 ≤ n) × (n ≤ 8)
+asked c = let g = admitted c in
+    let h = passed (c .before .before .before) (sym (g .passes)) in
+    (g .laws, h .least, h .most)
 
 known-requires : tie.Need-known-requires
 known-requires c κs = search needs
@@ -59,14 +67,19 @@ enum-known-p c = search needs
 start-requires : tie.Need-start-requires
 start-requires c κs = search needs
 
-coefficient-requires : tie.Need-coefficient-requires
-coefficient-requires c κs = let p = c .before .before in
-    let g = admitted p in
-    let h = passed (p .before .before .before) (sym (g .passes)) in
-    (g .laws, h .least, h .most)
+drawn-mod-q-requires : tie.Need-drawn-mod-q-requires
+drawn-mod-q-requires c κs = asked (c .before .before)
+
+sub-close-less : tie.Need-sub-close-less
+sub-close-less c = let l = asked (c .before .before .before .before) .0 in omega (arith, l .offset)
+
+close-less-requires : tie.Need-close-less-requires
+close-less-requires c κs = let d = c .before in
+    let (l, least, most) = asked (d .before .before .before) in
+    may-close l least most (d .drawn-mod-q .ensures)
 
 finish-requires : tie.Need-finish-requires
-finish-requires c κs = let p = c .before .before .before .before in
+finish-requires c κs = let p = c .before .before .before .before .before .before in
     let h = passed (p .before .before .before) (sym (admitted p .passes)) in
     omega (arith, h .fits, h .most)
 
@@ -84,14 +97,15 @@ returns-2 : tie.Need-returns-2
 unfolding sampler
 returns-2 c = let f = c .before .before in
     let k = f .before .before in
-    let p = k .before .before .before in
+    let d = k .before .before in
+    let p = d .before .before .before in
     let m = p .before .before in
     let a = m .before .before .before .before .before .args in
     let g = admitted p in
     sampler-ran _ _ _ _ (g .passes ∙ number (m .before)) (f .finish .ensures)
-    (ap (λ (j : ℕ). shared j (k .coefficient .result)) (passed (m .before) (sym (g .passes)) .fits ∙ one-mul (a .n))
-    ∙ k .coefficient .ensures .is
-    ∙ ap₂ (λ (q : Params) (d : Cursor). run (coefficient q (a .n)) (now (a .tape)) d) (g .constants) (k .before .start .ensures))
+    (ap (λ (j : ℕ). shared j (k .close-less .result)) (passed (m .before) (sym (g .passes)) .fits ∙ one-mul (a .n))
+    ∙ closed _ _ _ _ (d .drawn-mod-q .ensures) (k .close-less .ensures) .is
+    ∙ ap₂ (λ (q : Params) (d : Cursor). run (coefficient q (a .n)) (now (a .tape)) d) (g .constants) (d .before .start .ensures))
 
 pub sample-spec : {M : Type 1} → statement M
 sample-spec =
@@ -104,7 +118,9 @@ sample-spec =
     refused-requires
     enum-known-p
     start-requires
-    coefficient-requires
+    drawn-mod-q-requires
+    sub-close-less
+    close-less-requires
     finish-requires
     returns
     same-length
