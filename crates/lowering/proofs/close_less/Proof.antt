@@ -5,6 +5,7 @@ use Prim.Native.Nat.{_-_}
 use native.Mathlib.Omega.{arith}
 use lib.ListN.{getD, take}
 use borrow.Author.Tests.{not-false}
+use Rattle.numbers.specs.Modulo.{subMod}
 use Rattle.numbers.proofs.WordsLaws.{words-same}
 use Rattle.draws.specs.Draws.{run}
 use Rattle.shares.specs.Sharing.{arithmetic}
@@ -28,7 +29,11 @@ abbrev μ-loop : tie.MeasureT-loop
 held : (c : tie.Else1 Inv-loop μ-loop) → let a = c .before .before .args in Held 8 (a .n) (a .m) (a .t1 .words)
 held c = c .before .before .pre .1 (not-false _ (c .if1 .left))
 
--- the share that turn i reads
+-- what turn 0 reads
+lowered : (c : tie.After-sub-mod Inv-loop μ-loop) → let a = c .before .before .before .before .args in c .sub-mod .result ≡ subMod (a .m) (getD (a .t1 .words) 0 0) (a .offset)
+lowered c = c .sub-mod .ensures
+
+-- what turn i reads
 read : (c : tie.Joined2 Inv-loop μ-loop) →
     let l = c .before .before .before .before .before .before in
     let a = l .before .before .before .before .before .before .before .args in
@@ -37,7 +42,7 @@ read c =
     let l = c .before .before .before .before .before .before in
     let f = l .before .before .before in
     let h = held (f .before .before) in
-    ⊎-elim (λ w. w .1 ∙ f .sub-mod .ensures ∙ sym (less-first _ _ _ _ h _ (omega (arith, w .0 .taken)))) (λ w. w .2 ∙ sym (less-other _ _ _ _ h _ (omega (arith, w .0 .left)))) (c .if2 .came)
+    ⊎-elim (λ w. w .1 ∙ lowered f ∙ sym (less-first _ _ _ _ h _ (omega (arith, w .0 .taken)))) (λ w. w .2 ∙ sym (less-other _ _ _ _ h _ (omega (arith, w .0 .left)))) (c .if2 .came)
 
 ended-requires : tie.Need-ended-requires Inv-loop μ-loop
 ended-requires c κs = search needs
