@@ -2,12 +2,10 @@
 use mathlib.Core.Path.{_≡_, sym, ap, _∙_}
 use mathlib.Core.Bool.{true}
 use mathlib.Core.List.{List}
-use Prim.Native.Nat.{ℕ, _-_, _≤_, _<_}
+use Prim.Native.Nat.{ℕ, _-_, _≤_}
 use native.Mathlib.Omega.{arith}
 use Rattle.numbers.specs.Modulo.{q}
 use Rattle.params.specs.declared.Params.{Params}
-use Rattle.params.specs.Laws.{Laws}
-use Rattle.params.proofs.RoomLaws.{mask-small}
 use Rattle.tape.specs.declared.Cursor.{Cursor}
 use Rattle.tape.specs.Tape.{Ran}
 use Rattle.draws.specs.Draws.{Draws, bind, next, run}
@@ -22,11 +20,11 @@ use Rattle.first.specs.First.{takeFromFirst}
 use Rattle.switching.specs.ToModulus.{toModulus}
 use Rattle.sample.specs.Sampling.{lowered, maskPlan, coefficient}
 
--- what was drawn and converted may be closed with γ1 − 1 taken off
-pub may-close : {p : Params} {n : ℕ} {s : Shared} → Laws p → 2 ≤ n → n ≤ 8 → {x : Ran (List ℕ)} → Gave n q s x → (p .gamma1 - 1 < q) × (s .ok ≡ true → Held 8 n q (s .words))
-may-close l least most g = (omega (arith, mask-small l), λ t. record { least = least; most = most; two = omega arith; all = g .below t })
+-- what was drawn and converted may be closed
+pub drawn-held : {n : ℕ} {s : Shared} {x : Ran (List ℕ)} → 2 ≤ n → n ≤ 8 → Gave n q s x → s .ok ≡ true → Held 8 n q (s .words)
+drawn-held least most g t = record { least = least; most = most; two = omega arith; all = g .below t }
 
--- and that is the coefficient
+-- with γ1 − 1 taken off, that is the coefficient
 pub closed : (p : Params) (n : ℕ) (tape : List ℕ) (c : Cursor) {s r : Shared} → Gave n q s (run (bind (drawAll (maskPlan p n)) (toModulus q (p .mu))) tape c) →
     Gave n q r (next (shared n s) (λ xs d. run (refresh (arithmetic q) (takeFromFirst (arithmetic q) (p .gamma1 - 1) xs)) tape d)) → Gave n q r (run (coefficient p n) tape c)
 unfolding lowered coefficient

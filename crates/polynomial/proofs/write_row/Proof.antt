@@ -2,15 +2,17 @@ use borrow.Author.Needs.{needs}
 use mathlib.Core.Path.{sym, ap, _∙_}
 use mathlib.Core.List.{List}
 use Prim.Native.Nat.{ℕ}
+use native.Mathlib.Omega.{arith}
 use lib.ListN.{take}
 use denote.Ref.{now}
 use Rattle.numbers.specs.Modulo.{q}
+use Rattle.params.proofs.RoomLaws.{mask-small}
 use Rattle.tape.specs.Tape.{ran}
 use Rattle.draws.specs.Draws.{run}
 use Rattle.shares.specs.Arrays.{Gave}
 use Rattle.shares.proofs.ArraysLaws.{gave, stopped}
 use Rattle.sample.specs.Sampling.{coefficient}
-use Rattle.sample.proofs.StepLaws.{may-close, closed}
+use Rattle.sample.proofs.StepLaws.{drawn-held, closed}
 use Rattle.polynomial.specs.Answers.{writtenStandsFor}
 use Rattle.polynomial.proofs.write_row.Statement.{statement}
 use Rattle.polynomial.proofs.write_row.Tie as tie
@@ -25,7 +27,7 @@ close-less-requires : tie.Need-close-less-requires
 close-less-requires c κs =
     let d = c .before in
     let p = d .before .before .before .pre in
-    may-close (p .0) (p .1) (p .2) (d .drawn-mod-q .ensures)
+    (omega (arith, mask-small (p .0)), drawn-held (p .1) (p .2) (d .drawn-mod-q .ensures))
 
 -- what is closed is the coefficient
 row : (c : tie.After-close-less) → let a = c .before .before .before .before .before .args in Gave (a .n) q (c .close-less .result) (run (coefficient (a .p) (a .n)) (now (a .tape)) (a .cursor))

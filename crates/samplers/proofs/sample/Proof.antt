@@ -9,6 +9,7 @@ use denote.Ref.{now}
 use Rattle.params.specs.declared.Params.{Params}
 use Rattle.params.specs.Sets.{known}
 use Rattle.params.specs.Laws.{Laws}
+use Rattle.params.proofs.RoomLaws.{mask-small}
 use Rattle.tape.specs.declared.Cursor.{Cursor}
 use Rattle.tape.specs.Tape.{start}
 use Rattle.draws.specs.Draws.{run}
@@ -18,7 +19,7 @@ use Rattle.checks.proofs.CheckLaws.{AllPassed, all-checked, range-checked}
 use Rattle.checks.proofs.AdmitLaws.{not-admitted, Good, good}
 use Rattle.gate.proofs.GadgetLaws.{sampler-refused, sampler-ran}
 use Rattle.sample.specs.Sampling.{coefficient}
-use Rattle.sample.proofs.StepLaws.{may-close, closed}
+use Rattle.sample.proofs.StepLaws.{drawn-held, closed}
 use Rattle.samplers.specs.Samplers.{sampler}
 use Rattle.samplers.proofs.sample.Statement.{statement}
 use Rattle.samplers.proofs.sample.Tie as tie
@@ -76,7 +77,7 @@ sub-close-less c = let l = asked (c .before .before .before .before) .0 in omega
 close-less-requires : tie.Need-close-less-requires
 close-less-requires c κs = let d = c .before in
     let (l, least, most) = asked (d .before .before .before) in
-    may-close l least most (d .drawn-mod-q .ensures)
+    (omega (arith, mask-small l), drawn-held least most (d .drawn-mod-q .ensures))
 
 finish-requires : tie.Need-finish-requires
 finish-requires c κs = let p = c .before .before .before .before .before .before in
