@@ -92,7 +92,7 @@ zs : (c : tie.After-psi3) →
     _≡_ {A = List ℕ} (c .before .before .psi .result ∷ c .before .psi2 .result ∷ c .psi3 .result ∷ [])
     (zOf (start g .args .k) 4 (getD (fresh g) 0 0) (drop 1 (fresh g)))
 unfolding xor
-zs c = four-z _ _ _ _ _ (c .before .before .psi .ensures) (c .before .psi2 .ensures) (c .psi3 .ensures)
+zs c = four-z _ (getD (fresh (c .before .before .before .before .before .before)) 0 0) _ _ _ (c .before .before .psi .ensures) (c .before .psi2 .ensures) (c .psi3 .ensures)
 
 -- the results of U and Z
 u-below : (c : tie.Else1) → Words 8 (2 ^ start (c .before .before) .args .k) (c .before .of-three .result .words)
