@@ -37,8 +37,8 @@ fn draw_shares(n: usize, mu: u32, cursor: Cursor, tape: &[u32]) -> Shared
     }
 }
 
-// They are converted where they were drawn. What is left of a coefficient, γ1 − 1 taken from the first share and the closing refresh, is one pass of the
-// caller's, `lowering::close_less`, so that no array is copied in between.
+// The same number in shares mod q. What is left of a coefficient, γ1 − 1 taken from the first share and the closing refresh, is one pass of the caller's,
+// `lowering::close_less`, which reads these shares where the conversion left them.
 pub fn drawn_mod_q(p: Params, n: usize, cursor: Cursor, tape: &[u32]) -> Shared
     requires { ⌜ Laws p × (2 ≤ n) × (n ≤ 8) ⌝ }
     ensures { λ r. ⌜ Gave n q r (run (bind (drawAll (maskPlan p n)) (toModulus q (p .mu))) (now (tape .entry)) cursor) ⌝ }
