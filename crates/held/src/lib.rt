@@ -1,25 +1,36 @@
-// One case of the self test: a call of a public gadget, and whether it told what is wanted.
+// One case of the self test: a call of a public gadget, and whether it told what is wanted; of Boolean to arithmetic its steps, and what they gave.
+use convert::to_arithmetic;
 use gadgets::decompose;
 use gadgets::refresh;
 use gadgets::sample;
 use gadgets::shift;
-use gadgets::to_arithmetic;
 use gadgets::to_boolean;
 use gadgets::verdict;
+use params::Params;
+use shares::close;
+use tape::Cursor;
+use words::power;
 use words::reduce_q;
 ghost use mathlib.Core.Path.{_≡_};
 ghost use mathlib.Core.List.{[], _∷_};
+ghost use Prim.Native.Nat.{_^_, _≤_};
+ghost use lib.ListN.{take};
 ghost use Rattle.numbers.specs.Modulo.{q, addMod};
+ghost use Rattle.tape.specs.Tape.{start};
+ghost use Rattle.draws.specs.Draws.{bind, run};
+ghost use Rattle.shares.specs.Sharing.{arithmetic};
+ghost use Rattle.shares.specs.Refresh.{refresh};
+ghost use Rattle.shares.specs.Arrays.{Held};
+ghost use Rattle.convert.specs.ToArithmetic.{toArithmetic};
 ghost use Rattle.gate.specs.Gadget.{tells};
 ghost use Rattle.gate.specs.Judge.{judges};
 ghost use Rattle.gate.specs.Sampler.{samples};
 ghost use Rattle.refreshes.specs.Refresh.{refreshGadget};
 ghost use Rattle.shifts.specs.Shift.{shiftGadget, toBooleanGadget};
-ghost use Rattle.conversions.specs.Convert.{toArithmeticGadget};
 ghost use Rattle.samplers.specs.Samplers.{sampler};
 ghost use Rattle.decomposes.specs.Decompose.{decomposeGadget};
 ghost use Rattle.judges.specs.Verdict.{verdictGadget};
-ghost use Rattle.passing.specs.Held.{sevens, held, sharesShown, partsShown, verdictShown};
+ghost use Rattle.passing.specs.Held.{sevens, held, sharesShown, stepsHeld, partsShown, verdictShown};
 
 fn held(wanted: [u32; 4], number: u32, used: usize, third: u32, fourth: u32) -> bool
     ensures { λ r. ⌜ r ≡ held wanted (number ∷ used ∷ third ∷ fourth ∷ []) ⌝ }
@@ -52,12 +63,24 @@ pub fn shift_gives(shares: &[u32], tape: &[u32], modulus: u32, t: u32, wanted: [
     held(wanted, told.number, told.used, out[0], out[1])
 }
 
-pub fn to_arithmetic_gives(shares: &[u32], tape: &[u32], k: u32, wanted: [u32; 4]) -> bool
-    ensures { λ r. ⌜ r ≡ held wanted (sharesShown (tells (toArithmeticGadget k) (now (shares .entry)) (now (tape .entry)) sevens)) ⌝ }
+// Boolean to arithmetic with its closing refresh, as the public gadget makes them of two shares that pass its checks. The gadget itself is not called:
+// with a second caller the compiler would not take it into the exported function, which would be slower by a quarter.
+pub fn to_arithmetic_gives(
+    shares: [u32; Params::MOST],
+    tape: &[u32],
+    k: u32,
+    wanted: [u32; 4],
+) -> bool
+    requires { ⌜ (k ≤ 31) × Held 8 2 (2 ^ k) shares ⌝ }
+    ensures { λ r. ⌜ r ≡ stepsHeld wanted (run (bind (toArithmetic k (take 2 shares)) (refresh (arithmetic (2 ^ k)))) (now (tape .entry)) start) ⌝ }
 {
-    let mut out = [7u32; 2];
-    let told = to_arithmetic(shares, tape, k, &mut out);
-    held(wanted, told.number, told.used, out[0], out[1])
+    let s = to_arithmetic(shares, 2, k, Cursor::start(), tape);
+    let closed = close(s, 2, power(k), tape);
+    if !closed.ok {
+        return false;
+    }
+    let c = closed.cursor;
+    held(wanted, 0, c.at, closed.words[0], closed.words[1])
 }
 
 pub fn to_boolean_gives(shares: &[u32], tape: &[u32], k: u32, wanted: [u32; 4]) -> bool

@@ -10,10 +10,10 @@ use Rattle.numbers.specs.Tests.{both}
 use Rattle.numbers.specs.Bits.{bitsOf, powerFrom, alpha}
 use Rattle.numbers.specs.Lists.{fold, sum, change, along, over}
 use Rattle.params.specs.Sets.{setOf, ofKind, known, paramsOf}
-use Rattle.tape.specs.Tape.{lowBits, drawFrom, drawAt}
+use Rattle.tape.specs.Tape.{lowBits, drawFrom, drawAt, start}
 use Rattle.draws.specs.Draws.{after, next, run, bind, turns, each}
 use Rattle.draws.specs.Plan.{drawAll}
-use Rattle.shares.specs.Sharing.{negated, move}
+use Rattle.shares.specs.Sharing.{arithmetic, negated, move}
 use Rattle.shares.specs.Refresh.{turn, refresh}
 use Rattle.first.specs.First.{addToFirst, takeFromFirst}
 use Rattle.halving.specs.Halving.{join, joinTurn, sharedParity, less, moveParity, evened, halves, halving}
@@ -38,11 +38,10 @@ use Rattle.sides.specs.Sides.{side, sidesProduct}
 use Rattle.verdict.specs.Verdict.{tested, verdictOf, verdict}
 use Rattle.refreshes.specs.Refresh.{refreshGadget}
 use Rattle.shifts.specs.Shift.{shiftRange, shiftGadget, toBooleanGadget}
-use Rattle.conversions.specs.Convert.{toArithmeticGadget}
 use Rattle.widens.specs.Widen.{kindRange}
 use Rattle.decomposes.specs.Decompose.{decomposeGadget}
 use Rattle.judges.specs.Verdict.{verdictGadget}
-use Rattle.passing.specs.Held.{sevens, smallTape, held, sharesShown, partsShown, verdictShown}
+use Rattle.passing.specs.Held.{sevens, smallTape, held, sharesShown, stepsHeld, partsShown, verdictShown}
 
 abbrev shown : (wanted : List ℕ) → Told → Type 0
 shown wanted t = held wanted (sharesShown t) ≡ true
@@ -61,11 +60,11 @@ bounded set kind second used opened =
 pub record Passing : Type 0 where
   pub draw-skips : shown (0 ∷ 2 ∷ 8380416 ∷ 1 ∷ []) (tells (refreshGadget q) (0 ∷ 0 ∷ []) (8380417 ∷ 8380416 ∷ []) sevens)
   pub draw-cuts : shown (0 ∷ 1 ∷ 0 ∷ 0 ∷ []) (tells (refreshGadget q) (0 ∷ 0 ∷ []) (8388608 ∷ []) sevens)
-  pub psi-of : shown (0 ∷ 3 ∷ 7 ∷ 15 ∷ []) (tells (toArithmeticGadget 4) (5 ∷ 3 ∷ []) (0 ∷ 0 ∷ 4 ∷ []) sevens)
+  pub psi-of : psi 4 5 3 ≡ 3
   pub shift-draws : shown (0 ∷ 2 ∷ 0 ∷ 2 ∷ []) (tells (shiftGadget 10 1) (7 ∷ 8 ∷ []) (3 ∷ 4 ∷ []) sevens)
   pub shift-skips : shown (0 ∷ 4 ∷ 0 ∷ 2 ∷ []) (tells (shiftGadget 10 1) (7 ∷ 8 ∷ []) (12 ∷ 3 ∷ 6 ∷ 4 ∷ []) sevens)
   pub shift-ends : shown (5 ∷ 0 ∷ 7 ∷ 7 ∷ []) (tells (shiftGadget 10 1) (7 ∷ 8 ∷ []) (12 ∷ 3 ∷ 6 ∷ []) sevens)
-  pub to-arithmetic : shown (0 ∷ 3 ∷ 9 ∷ 12 ∷ []) (tells (toArithmeticGadget 4) (6 ∷ 3 ∷ []) (1 ∷ 2 ∷ 7 ∷ []) sevens)
+  pub to-arithmetic : stepsHeld (0 ∷ 3 ∷ 9 ∷ 12 ∷ []) (run (bind (toArithmetic 4 (6 ∷ 3 ∷ [])) (refresh (arithmetic 16))) (1 ∷ 2 ∷ 7 ∷ []) start) ≡ true
   pub to-boolean : shown (0 ∷ 3 ∷ 7 ∷ 2 ∷ []) (tells (toBooleanGadget 3) (6 ∷ 7 ∷ []) (0 ∷ 0 ∷ 3 ∷ []) sevens)
   pub offset44 : shown (0 ∷ 6 ∷ 8249346 ∷ 0 ∷ []) (samples (sampler 44) 2 (replicate 6 0) sevens)
   pub offset65 : shown (0 ∷ 6 ∷ 7856130 ∷ 0 ∷ []) (samples (sampler 65) 2 (replicate 6 0) sevens)
@@ -91,5 +90,5 @@ pub record Passing : Type 0 where
   pub bound87-2 : bounded 87 2 3642184 22 5101477
 
 pub passing : Passing
-unfolding leadingZeros addMod subMod negMod xor bitsOf powerFrom alpha fold sum change along over setOf ofKind known paramsOf lowBits drawFrom drawAt after next run bind turns each drawAll addToFirst takeFromFirst negated move turn refresh join joinTurn sharedParity less moveParity evened halves halving shift withBit bitsFrom toBoolean psi psis zOf added rule toArithmetic floors raised raisedShift carries without toModulus inside allBelow firstFailing checksOf checks leaveOut refusal ranTold checkNumber told silentSteps closed tells samples judgeChecks judges lowered coefficient sampler widen highShares highPart lowShares decompose begun crossed pair row product side sidesProduct scaled scaleTurn zeroTest tested verdictOf verdict refreshGadget shiftRange shiftGadget toBooleanGadget toArithmeticGadget kindRange decomposeGadget verdictGadget held sharesShown partsShown verdictShown
+unfolding leadingZeros addMod subMod negMod xor bitsOf powerFrom alpha fold sum change along over setOf ofKind known paramsOf lowBits drawFrom drawAt after next run bind turns each drawAll addToFirst takeFromFirst negated move turn refresh join joinTurn sharedParity less moveParity evened halves halving shift withBit bitsFrom toBoolean psi psis zOf added rule toArithmetic floors raised raisedShift carries without toModulus inside allBelow firstFailing checksOf checks leaveOut refusal ranTold checkNumber told silentSteps closed tells samples judgeChecks judges lowered coefficient sampler widen highShares highPart lowShares decompose begun crossed pair row product side sidesProduct scaled scaleTurn zeroTest tested verdictOf verdict refreshGadget shiftRange shiftGadget toBooleanGadget kindRange decomposeGadget verdictGadget held sharesShown stepsHeld partsShown verdictShown
 passing = record { draw-skips = refl; draw-cuts = refl; psi-of = refl; shift-draws = refl; shift-skips = refl; shift-ends = refl; to-arithmetic = refl; to-boolean = refl; offset44 = refl; offset65 = refl; offset87 = refl; half = refl; past-half = refl; last = refl; wraps = refl; before = refl; small = refl; minus-small = refl; large = refl; minus-large = refl; reach = refl; eight = refl; one-share = refl; nine-shares = refl; share-q = refl; bound44-2 = refl; bound65-1 = refl; bound65-2 = refl; bound87-1 = refl; bound87-2 = refl }

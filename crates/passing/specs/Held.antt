@@ -1,11 +1,12 @@
 -- What the self test asks of a call, as a test of what the call tells.
-use mathlib.Core.Bool.{Bool}
+use mathlib.Core.Bool.{Bool, false}
 use mathlib.Core.List.{List, [], _∷_}
 use Prim.Native.Nat.{ℕ}
 use lib.Dec.{eqb}
 use lib.ListN.{getD, replicate}
 use Rattle.numbers.specs.Modulo.{q, addMod}
 use Rattle.numbers.specs.Tests.{both}
+use Rattle.tape.specs.Tape.{Ran, ended, ran}
 use Rattle.gate.specs.Told.{Told}
 
 -- word i of a list
@@ -29,6 +30,11 @@ held wanted shown =
 -- what a case looks at of a call on two shares: the number, the words used, and both words of the output slice
 unfoldable pub sharesShown : Told → List ℕ
 sharesShown t = t .number ∷ t .used ∷ word 0 (t .out) ∷ word 1 (t .out) ∷ []
+
+-- of steps that are no call: the words used and both shares; where the tape has ended, nothing is as wanted
+unfoldable pub stepsHeld : (wanted : List ℕ) → Ran (List ℕ) → Bool
+stepsHeld wanted ended = false
+stepsHeld wanted (ran xs c) = held wanted (0 ∷ c .at ∷ word 0 xs ∷ word 1 xs ∷ [])
 
 -- of Decompose: the number, the words used, the high part, and what both low shares recombine to
 unfoldable pub partsShown : Told → List ℕ

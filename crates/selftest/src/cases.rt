@@ -8,6 +8,7 @@ use held::to_arithmetic_gives;
 use held::to_boolean_gives;
 use held::verdict_gives;
 use params::Params;
+use psi::psi;
 ghost use mathlib.Core.Path.{_≡_};
 ghost use mathlib.Core.List.{[], _∷_};
 ghost use Prim.Native.Nat.{_+_, _<_};
@@ -52,7 +53,7 @@ fn small_tape() -> [u32; 26]
     ]
 }
 
-// Two draws below q, which a refresh of zeros shows; and Ψ(5,3) at k = 4, which is 3: the second share before the closing refresh takes 4 from it.
+// Two draws below q, which a refresh of zeros shows; and Ψ(5,3) at k = 4.
 pub fn draws() -> u32
     ensures { λ r. ⌜ r ≡ 0 ⌝ }
 {
@@ -62,7 +63,7 @@ pub fn draws() -> u32
     if !refresh_gives(&[0, 0], &[8388608], Params::Q, [0, 1, 0, 0]) {
         return 2;
     }
-    if !to_arithmetic_gives(&[5, 3], &[0, 0, 4], 4, [0, 3, 7, 15]) {
+    if psi(5, 3, 4) != 3 {
         return 3;
     }
     0
@@ -86,7 +87,7 @@ pub fn shifts() -> u32
 pub fn conversions() -> u32
     ensures { λ r. ⌜ r ≡ 0 ⌝ }
 {
-    if !to_arithmetic_gives(&[6, 3], &[1, 2, 7], 4, [0, 3, 9, 12]) {
+    if !to_arithmetic_gives([6, 3, 0, 0, 0, 0, 0, 0], &[1, 2, 7], 4, [0, 3, 9, 12]) {
         return 7;
     }
     if !to_boolean_gives(&[6, 7], &[0, 0, 3], 3, [0, 3, 7, 2]) {

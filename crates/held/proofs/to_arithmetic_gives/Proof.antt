@@ -1,36 +1,70 @@
 use borrow.Author.Needs.{needs}
+use mathlib.Core.Path.{_≡_, ap, ap₂, _∙_}
+use Prim.Native.Nat.{ℕ, _^_}
+use native.Mathlib.Omega.{arith}
+use lib.ListN.{take}
+use denote.Ref.{now}
+use Rattle.tape.specs.declared.Cursor.{Cursor}
+use Rattle.tape.specs.Tape.{start}
+use Rattle.draws.specs.Draws.{bind, run}
+use Rattle.shares.specs.Sharing.{arithmetic}
+use Rattle.shares.specs.Refresh.{refresh}
+use Rattle.shares.specs.Arrays.{Gave}
+use Rattle.shares.proofs.ArraysLaws.{held-of, gave, stopped, given-as}
+use Rattle.convert.specs.ToArithmetic.{toArithmetic}
+use Rattle.held.proofs.HeldLaws.{followed, steps-none, steps-gave}
 use Rattle.held.proofs.to_arithmetic_gives.Statement.{statement}
 use Rattle.held.proofs.to_arithmetic_gives.Tie as tie
-use mathlib.Core.Path.{ap, _∙_}
-use Rattle.gate.specs.Told.{Told, standsFor}
-use Rattle.passing.specs.Held.{held, sharesShown}
 
-slice-aggregate-to-arithmetic : tie.Need-slice-aggregate-to-arithmetic
-slice-aggregate-to-arithmetic c = search needs
+-- the conversion and the refresh, as one program
+both : (c : tie.After-close) → let p = c .before in
+    let t = p .before in
+    let a = t .before .before .before .args in
+    Gave 2 (p .power .result) (c .close .result) (run (bind (toArithmetic (a .k) (take 2 (a .shares))) (refresh (arithmetic (2 ^ a .k)))) (now (a .tape)) start)
+both c = let p = c .before in
+    let t = p .before in
+    let a = t .before .before .before .args in
+    given-as (c .close .ensures)
+    (followed (toArithmetic (a .k) (take 2 (a .shares))) (refresh (arithmetic (p .power .result))) (now (a .tape)) _ (t .to-arithmetic .ensures)
+    ∙ ap₂ (λ (m : ℕ) (q : Cursor). run (bind (toArithmetic (a .k) (take 2 (a .shares))) (refresh (arithmetic m))) (now (a .tape)) q) (p .power .ensures) (t .before .start .ensures))
+
+start-requires : tie.Need-start-requires
+start-requires c κs = search needs
 
 to-arithmetic-requires : tie.Need-to-arithmetic-requires
 to-arithmetic-requires c κs = search needs
 
-array-read-held : tie.Need-array-read-held
-array-read-held c = search needs
+power-requires : tie.Need-power-requires
+power-requires c κs = search needs
 
-array-read-held-2 : tie.Need-array-read-held-2
-array-read-held-2 c = search needs
+close-requires : tie.Need-close-requires
+close-requires c κs = let t = c .before in λ ok. rw (c .power .ensures) (held-of (t .before .before .before .pre .1) (t .to-arithmetic .ensures .below ok))
+
+returns : tie.Need-returns
+returns c = steps-none _ (stopped (both (c .before)) (c .if1 .taken))
+
+element-copy-out-held : tie.Need-element-copy-out-held
+element-copy-out-held c = search needs
+
+element-copy-out-held-2 : tie.Need-element-copy-out-held-2
+element-copy-out-held-2 c = search needs
 
 held-requires : tie.Need-held-requires
 held-requires c κs = search needs
 
-returns : tie.Need-returns
-unfolding standsFor sharesShown
-returns c = c .held .ensures ∙ ap (λ (t : Told). held (c .before .before .before .before .before .before .args .wanted) (sharesShown t)) (c .before .before .to-arithmetic .ensures)
+returns-2 : tie.Need-returns-2
+returns-2 c = let e = c .before .before .before .before in c .held .ensures ∙ steps-gave _ (e .before .close .result .words) (gave (both (e .before)) (e .if1 .left))
 
 pub to-arithmetic-gives-spec : {M : Type 1} → statement M
 to-arithmetic-gives-spec =
     tie.close
     (tie.spec
-    slice-aggregate-to-arithmetic
+    start-requires
     to-arithmetic-requires
-    array-read-held
-    array-read-held-2
+    power-requires
+    close-requires
+    returns
+    element-copy-out-held
+    element-copy-out-held-2
     held-requires
-    returns)
+    returns-2)

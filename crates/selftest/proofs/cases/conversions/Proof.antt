@@ -1,4 +1,6 @@
 use borrow.Author.Needs.{needs}
+use native.Mathlib.Omega.{arith}
+use Rattle.numbers.proofs.WordsLaws.{words-cons, words-same}
 use Rattle.selftest.proofs.cases.conversions.Statement.{statement}
 use Rattle.selftest.proofs.cases.conversions.Tie as tie
 use Rattle.passing.proofs.CaseLaws.{passing}
@@ -7,11 +9,8 @@ use Rattle.selftest.proofs.TestLaws.{never}
 slice-aggregate-to-arithmetic-gives : tie.Need-slice-aggregate-to-arithmetic-gives
 slice-aggregate-to-arithmetic-gives c = search needs
 
-slice-aggregate-to-arithmetic-gives-2 : tie.Need-slice-aggregate-to-arithmetic-gives-2
-slice-aggregate-to-arithmetic-gives-2 c = search needs
-
 to-arithmetic-gives-requires : tie.Need-to-arithmetic-gives-requires
-to-arithmetic-gives-requires c κs = search needs
+to-arithmetic-gives-requires c κs = (omega arith, record { least = omega arith; most = omega arith; two = omega arith; all = words-cons (omega arith) (words-cons (omega arith) (words-same (omega arith))) })
 
 returns : tie.Need-returns
 returns c = never (c .before .to-arithmetic-gives .ensures) (passing .to-arithmetic) (c .if1 .taken)
@@ -36,7 +35,6 @@ conversions-spec =
     tie.close
     (tie.spec
     slice-aggregate-to-arithmetic-gives
-    slice-aggregate-to-arithmetic-gives-2
     to-arithmetic-gives-requires
     returns
     slice-aggregate-to-boolean-gives

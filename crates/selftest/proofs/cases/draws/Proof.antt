@@ -1,4 +1,5 @@
 use borrow.Author.Needs.{needs}
+use mathlib.Core.Path.{_∙_}
 use Rattle.selftest.proofs.cases.draws.Statement.{statement}
 use Rattle.selftest.proofs.cases.draws.Tie as tie
 use Rattle.passing.proofs.CaseLaws.{passing}
@@ -28,17 +29,11 @@ refresh-gives-requires-2 c κs = search needs
 returns-2 : tie.Need-returns-2
 returns-2 c = never (c .before .refresh-gives2 .ensures) (passing .draw-cuts) (c .if2 .taken)
 
-slice-aggregate-to-arithmetic-gives : tie.Need-slice-aggregate-to-arithmetic-gives
-slice-aggregate-to-arithmetic-gives c = search needs
-
-slice-aggregate-to-arithmetic-gives-2 : tie.Need-slice-aggregate-to-arithmetic-gives-2
-slice-aggregate-to-arithmetic-gives-2 c = search needs
-
-to-arithmetic-gives-requires : tie.Need-to-arithmetic-gives-requires
-to-arithmetic-gives-requires c κs = search needs
+psi-requires : tie.Need-psi-requires
+psi-requires c κs = search needs
 
 returns-3 : tie.Need-returns-3
-returns-3 c = never (c .before .to-arithmetic-gives .ensures) (passing .psi-of) (c .if3 .taken)
+returns-3 c = absurd (c .if3 .taken (c .before .psi .ensures ∙ passing .psi-of))
 
 returns-4 : tie.Need-returns-4
 returns-4 c = search needs
@@ -55,8 +50,6 @@ draws-spec =
     slice-aggregate-refresh-gives-4
     refresh-gives-requires-2
     returns-2
-    slice-aggregate-to-arithmetic-gives
-    slice-aggregate-to-arithmetic-gives-2
-    to-arithmetic-gives-requires
+    psi-requires
     returns-3
     returns-4)
