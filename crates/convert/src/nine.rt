@@ -23,7 +23,7 @@ pub fn into_nine(words: [u32; Params::MOST]) -> [u32; 9]
     out
 }
 
-// Boolean refresh of width k: that of `shares`, on nine words.
+// Boolean refresh of width k: that of `boolean`, on nine words.
 pub fn refresh_nine(shares: [u32; 9], n: usize, k: u32, cursor: Cursor, tape: &[u32]) -> SharedNine
     requires { ⌜ (k ≤ 31) × Held 9 n (2 ^ k) shares ⌝ }
     ensures { λ r. ⌜ GaveNine n (2 ^ k) r (run (refresh (boolean k) (take n shares)) (now (tape .entry)) cursor) ⌝ }

@@ -46,6 +46,9 @@ use Rattle.passing.specs.Held.{sevens, smallTape, held, sharesShown, ste
 abbrev shown : (wanted : List ℕ) → Told → Type 0
 shown wanted t = held wanted (sharesShown t) ≡ true
 
+abbrev converted : (wanted shares tape : List ℕ) → Type 0
+converted wanted shares tape = stepsHeld wanted (run (bind (toArithmetic 4 shares) (refresh (arithmetic 16))) tape start) ≡ true
+
 abbrev parted : (second high low : ℕ) → Type 0
 parted second high low = held (0 ∷ 26 ∷ high ∷ low ∷ []) (partsShown (tells (decomposeGadget 44) (5000000 ∷ second ∷ []) smallTape sevens)) ≡ true
 
@@ -60,11 +63,11 @@ bounded set kind second used opened =
 pub record Passing : Type 0 where
   pub draw-skips : shown (0 ∷ 2 ∷ 8380416 ∷ 1 ∷ []) (tells (refreshGadget q) (0 ∷ 0 ∷ []) (8380417 ∷ 8380416 ∷ []) sevens)
   pub draw-cuts : shown (0 ∷ 1 ∷ 0 ∷ 0 ∷ []) (tells (refreshGadget q) (0 ∷ 0 ∷ []) (8388608 ∷ []) sevens)
-  pub psi-of : psi 4 5 3 ≡ 3
+  pub psi-of : converted (0 ∷ 3 ∷ 7 ∷ 15 ∷ []) (5 ∷ 3 ∷ []) (0 ∷ 0 ∷ 4 ∷ [])
   pub shift-draws : shown (0 ∷ 2 ∷ 0 ∷ 2 ∷ []) (tells (shiftGadget 10 1) (7 ∷ 8 ∷ []) (3 ∷ 4 ∷ []) sevens)
   pub shift-skips : shown (0 ∷ 4 ∷ 0 ∷ 2 ∷ []) (tells (shiftGadget 10 1) (7 ∷ 8 ∷ []) (12 ∷ 3 ∷ 6 ∷ 4 ∷ []) sevens)
   pub shift-ends : shown (5 ∷ 0 ∷ 7 ∷ 7 ∷ []) (tells (shiftGadget 10 1) (7 ∷ 8 ∷ []) (12 ∷ 3 ∷ 6 ∷ []) sevens)
-  pub to-arithmetic : stepsHeld (0 ∷ 3 ∷ 9 ∷ 12 ∷ []) (run (bind (toArithmetic 4 (6 ∷ 3 ∷ [])) (refresh (arithmetic 16))) (1 ∷ 2 ∷ 7 ∷ []) start) ≡ true
+  pub to-arithmetic : converted (0 ∷ 3 ∷ 9 ∷ 12 ∷ []) (6 ∷ 3 ∷ []) (1 ∷ 2 ∷ 7 ∷ [])
   pub to-boolean : shown (0 ∷ 3 ∷ 7 ∷ 2 ∷ []) (tells (toBooleanGadget 3) (6 ∷ 7 ∷ []) (0 ∷ 0 ∷ 3 ∷ []) sevens)
   pub offset44 : shown (0 ∷ 6 ∷ 8249346 ∷ 0 ∷ []) (samples (sampler 44) 2 (replicate 6 0) sevens)
   pub offset65 : shown (0 ∷ 6 ∷ 7856130 ∷ 0 ∷ []) (samples (sampler 65) 2 (replicate 6 0) sevens)

@@ -8,7 +8,6 @@ use held::to_arithmetic_gives;
 use held::to_boolean_gives;
 use held::verdict_gives;
 use params::Params;
-use psi::psi;
 ghost use mathlib.Core.Path.{_≡_};
 ghost use mathlib.Core.List.{[], _∷_};
 ghost use Prim.Native.Nat.{_+_, _<_};
@@ -53,7 +52,7 @@ fn small_tape() -> [u32; 26]
     ]
 }
 
-// Two draws below q, which a refresh of zeros shows; and Ψ(5,3) at k = 4.
+// Two draws below q, which a refresh of zeros shows; and Ψ(5,3) at k = 4, which is 3: the second share before the closing refresh takes 4 from it.
 pub fn draws() -> u32
     ensures { λ r. ⌜ r ≡ 0 ⌝ }
 {
@@ -63,7 +62,7 @@ pub fn draws() -> u32
     if !refresh_gives(&[0, 0], &[8388608], Params::Q, [0, 1, 0, 0]) {
         return 2;
     }
-    if psi(5, 3, 4) != 3 {
+    if !to_arithmetic_gives([5, 3, 0, 0, 0, 0, 0, 0], &[0, 0, 4], 4, [0, 3, 7, 15]) {
         return 3;
     }
     0

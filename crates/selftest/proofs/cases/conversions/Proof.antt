@@ -1,16 +1,15 @@
 use borrow.Author.Needs.{needs}
 use native.Mathlib.Omega.{arith}
-use Rattle.numbers.proofs.WordsLaws.{words-cons, words-same}
 use Rattle.selftest.proofs.cases.conversions.Statement.{statement}
 use Rattle.selftest.proofs.cases.conversions.Tie as tie
 use Rattle.passing.proofs.CaseLaws.{passing}
-use Rattle.selftest.proofs.TestLaws.{never}
+use Rattle.selftest.proofs.TestLaws.{never, two-held}
 
 slice-aggregate-to-arithmetic-gives : tie.Need-slice-aggregate-to-arithmetic-gives
 slice-aggregate-to-arithmetic-gives c = search needs
 
 to-arithmetic-gives-requires : tie.Need-to-arithmetic-gives-requires
-to-arithmetic-gives-requires c κs = (omega arith, record { least = omega arith; most = omega arith; two = omega arith; all = words-cons (omega arith) (words-cons (omega arith) (words-same (omega arith))) })
+to-arithmetic-gives-requires c κs = (omega arith, two-held (omega arith) (omega arith) (omega arith))
 
 returns : tie.Need-returns
 returns c = never (c .before .to-arithmetic-gives .ensures) (passing .to-arithmetic) (c .if1 .taken)

@@ -1,9 +1,9 @@
 use borrow.Author.Needs.{needs}
-use mathlib.Core.Path.{_∙_}
+use native.Mathlib.Omega.{arith}
 use Rattle.selftest.proofs.cases.draws.Statement.{statement}
 use Rattle.selftest.proofs.cases.draws.Tie as tie
 use Rattle.passing.proofs.CaseLaws.{passing}
-use Rattle.selftest.proofs.TestLaws.{never}
+use Rattle.selftest.proofs.TestLaws.{never, two-held}
 
 slice-aggregate-refresh-gives : tie.Need-slice-aggregate-refresh-gives
 slice-aggregate-refresh-gives c = search needs
@@ -29,11 +29,14 @@ refresh-gives-requires-2 c κs = search needs
 returns-2 : tie.Need-returns-2
 returns-2 c = never (c .before .refresh-gives2 .ensures) (passing .draw-cuts) (c .if2 .taken)
 
-psi-requires : tie.Need-psi-requires
-psi-requires c κs = search needs
+slice-aggregate-to-arithmetic-gives : tie.Need-slice-aggregate-to-arithmetic-gives
+slice-aggregate-to-arithmetic-gives c = search needs
+
+to-arithmetic-gives-requires : tie.Need-to-arithmetic-gives-requires
+to-arithmetic-gives-requires c κs = (omega arith, two-held (omega arith) (omega arith) (omega arith))
 
 returns-3 : tie.Need-returns-3
-returns-3 c = absurd (c .if3 .taken (c .before .psi .ensures ∙ passing .psi-of))
+returns-3 c = never (c .before .to-arithmetic-gives .ensures) (passing .psi-of) (c .if3 .taken)
 
 returns-4 : tie.Need-returns-4
 returns-4 c = search needs
@@ -50,6 +53,7 @@ draws-spec =
     slice-aggregate-refresh-gives-4
     refresh-gives-requires-2
     returns-2
-    psi-requires
+    slice-aggregate-to-arithmetic-gives
+    to-arithmetic-gives-requires
     returns-3
     returns-4)
