@@ -70,8 +70,8 @@ pub record Passing : Type 0 where
   pub to-arithmetic : converted (0 ∷ 3 ∷ 9 ∷ 12 ∷ []) (6 ∷ 3 ∷ []) (1 ∷ 2 ∷ 7 ∷ [])
   pub to-boolean : shown (0 ∷ 3 ∷ 7 ∷ 2 ∷ []) (tells (toBooleanGadget 3) (6 ∷ 7 ∷ []) (0 ∷ 0 ∷ 3 ∷ []) sevens)
   pub offset44 : shown (0 ∷ 6 ∷ 8249346 ∷ 0 ∷ []) (samples (sampler 44) 2 (replicate 6 0) sevens)
-  pub offset65 : shown (0 ∷ 6 ∷ 7856130 ∷ 0 ∷ []) (samples (sampler 65) 2 (replicate 6 0) sevens)
-  pub offset87 : shown (0 ∷ 6 ∷ 7856130 ∷ 0 ∷ []) (samples (sampler 87) 2 (replicate 6 0) sevens)
+  pub offset65 : shown (0 ∷ 6 ∷ 7864327 ∷ 8372226 ∷ []) (samples (sampler 65) 2 (5 ∷ 3 ∷ 1 ∷ 2 ∷ 7 ∷ 4 ∷ []) sevens)
+  pub offset87 : shown (0 ∷ 6 ∷ 5767179 ∷ 2088956 ∷ []) (samples (sampler 87) 2 (6 ∷ 3 ∷ 2 ∷ 1 ∷ 5 ∷ 9 ∷ []) sevens)
   pub half : parted 3475649 0 95232
   pub past-half : parted 3475650 1 8285186
   pub last : parted 3380416 0 8380416

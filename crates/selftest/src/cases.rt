@@ -95,17 +95,17 @@ pub fn conversions() -> u32
     0
 }
 
-// A mask of zero words is what is taken off: the offset γ1 − 1 of each set.
+// The offset γ1 − 1 of each set: of zero words the mask is what is taken off; of the others the numbers 6 and 5 are left, which go through the conversion.
 pub fn offsets() -> u32
     ensures { λ r. ⌜ r ≡ 0 ⌝ }
 {
     if !sample_gives(&[0, 0, 0, 0, 0, 0], 44, [0, 6, 8249346, 0]) {
         return 9;
     }
-    if !sample_gives(&[0, 0, 0, 0, 0, 0], 65, [0, 6, 7856130, 0]) {
+    if !sample_gives(&[5, 3, 1, 2, 7, 4], 65, [0, 6, 7864327, 8372226]) {
         return 10;
     }
-    if !sample_gives(&[0, 0, 0, 0, 0, 0], 87, [0, 6, 7856130, 0]) {
+    if !sample_gives(&[6, 3, 2, 1, 5, 9], 87, [0, 6, 5767179, 2088956]) {
         return 11;
     }
     0

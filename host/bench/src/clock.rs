@@ -6,7 +6,8 @@ use crate::side::{Library, Plain, Side};
 use std::hint::black_box;
 use std::time::{Duration, Instant};
 
-const ROUNDS: usize = 150;
+const PASSES: usize = 5;
+const ROUNDS: usize = 40;
 const ROUND: Duration = Duration::from_micros(1500);
 const INPUTS: usize = 512;
 
@@ -81,7 +82,20 @@ fn calls_per_round(pool: &mut Pool, gadget: Gadget) -> usize {
     count
 }
 
-pub fn time(gadget: Gadget, n: usize) -> Times {
+impl Times {
+    fn fastest(self, other: Times) -> Times {
+        Times { library: self.library.min(other.library), plain: self.plain.min(other.plain), words: self.words }
+    }
+}
+
+/// Gadgets with share counts, all of them in several passes: a machine can be slow for seconds, and in one pass that would fall on a few of them alone.
+pub fn times(points: &[(Gadget, usize)]) -> Vec<Times> {
+    let pass = || points.iter().map(|&(gadget, n)| time(gadget, n));
+    (1..PASSES)
+        .fold(pass().collect(), |all: Vec<Times>, _| all.into_iter().zip(pass()).map(|(x, y)| x.fastest(y)).collect())
+}
+
+fn time(gadget: Gadget, n: usize) -> Times {
     let mut pool = Pool::new(gadget, n);
     let count = calls_per_round(&mut pool, gadget);
     let (mut library, mut plain) = (Duration::MAX, Duration::MAX);

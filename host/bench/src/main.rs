@@ -20,34 +20,34 @@ struct Ratio {
 
 /// One line of the table for each share count.
 fn table(gadgets: &[Gadget]) -> Vec<Ratio> {
+    let points: Vec<(Gadget, usize)> = gadgets.iter().flat_map(|&gadget| [2, 3, 4, 8].map(|n| (gadget, n))).collect();
+    let times = clock::times(&points);
     println!("{:18} n    draws    words    library ns      plain ns  ratio  library ns/draw", "gadget");
     let mut ratios = Vec::new();
-    for &gadget in gadgets {
-        for n in [2, 3, 4, 8] {
-            let t = clock::time(gadget, n);
-            let draws = gadget.draws(n);
-            let ratio = t.library / t.plain;
-            let per_draw = t.library / draws as f64;
-            println!(
-                "{:18} {n} {draws:8} {:8.1} {:13.1} {:13.1} {ratio:6.2} {per_draw:16.2}",
-                gadget.name(),
-                t.words,
-                t.library,
-                t.plain,
-            );
-            ratios.push(Ratio { ratio, gadget, n });
-        }
+    for ((gadget, n), t) in points.into_iter().zip(times) {
+        let draws = gadget.draws(n);
+        let ratio = t.library / t.plain;
+        let per_draw = t.library / draws as f64;
+        println!(
+            "{:18} {n} {draws:8} {:8.1} {:13.1} {:13.1} {ratio:6.2} {per_draw:16.2}",
+            gadget.name(),
+            t.words,
+            t.library,
+            t.plain,
+        );
+        ratios.push(Ratio { ratio, gadget, n });
     }
     ratios
 }
 
 /// How the verdict's cost grows with the share count.
 fn growth() {
+    let points: Vec<(Gadget, usize)> = (2..=8).map(|n| (Gadget::Verdict, n)).collect();
     println!();
     println!("verdict, growth    n    draws    library ns  against n = 2  ns/draw  against n = 2");
     let mut first = None;
-    for n in 2..=8 {
-        let time = clock::time(Gadget::Verdict, n).library;
+    for (&(_, n), t) in points.iter().zip(clock::times(&points)) {
+        let time = t.library;
         let draws = Gadget::Verdict.draws(n);
         let per_draw = time / draws as f64;
         let (time_2, per_draw_2) = *first.get_or_insert((time, per_draw));
