@@ -1,2 +1,2 @@
-pub mod RuleLaws
+pub mod NineLaws
 pub mod ValueLaws

@@ -29,7 +29,8 @@ use Rattle.shares.specs.Refresh.{refreshPlan}
 use Rattle.shares.proofs.SharingLaws.{Shares}
 use Rattle.shares.proofs.RefreshLaws.{refresh-keeps}
 use Rattle.psi.specs.Psi.{psi, psis, zOf, added}
-use Rattle.convert.specs.ToArithmetic.{rule, toArithmetic, toArithmeticPlan}
+use Rattle.few.specs.Rule.{rule}
+use Rattle.convert.specs.ToArithmetic.{toArithmetic, toArithmeticPlan}
 use Rattle.psi.proofs.ListLaws.{z-words}
 use Rattle.psi.proofs.PsiLaws.{psi-add, psi-affine}
 

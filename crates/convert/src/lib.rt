@@ -1,5 +1,4 @@
 // Boolean shares of width k to arithmetic ones mod 2^k, by a rule that calls itself on two shorter lists.
-mod few;
 mod nine;
 mod rule;
 

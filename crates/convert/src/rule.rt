@@ -1,8 +1,8 @@
 // The rule of document 01, and the conversion, which applies it to the shares with a zero share after them.
-use super::few::of_four;
-use super::few::of_three;
 use super::nine::into_nine;
 use super::nine::refresh_nine;
+use few::of_four;
+use few::of_three;
 use params::Params;
 use psi::added;
 use psi::u_of;
@@ -13,7 +13,8 @@ ghost use Prim.Native.Nat.{_-_, _^_, _≤_};
 ghost use lib.ListN.{take};
 ghost use Rattle.draws.specs.Draws.{run};
 ghost use Rattle.shares.specs.Arrays.{Held, Gave};
-ghost use Rattle.convert.specs.ToArithmetic.{rule, toArithmetic};
+ghost use Rattle.few.specs.Rule.{rule};
+ghost use Rattle.convert.specs.ToArithmetic.{toArithmetic};
 
 // With five shares or more the rule calls itself on U and then on Z, one share fewer each time.
 fn rule(shares: [u32; 9], s: usize, k: u32, cursor: Cursor, tape: &[u32]) -> Shared

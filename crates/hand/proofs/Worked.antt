@@ -15,7 +15,8 @@ use Rattle.halving.specs.Halving.{join, joinTurn, sharedParity, less, moveParit
 use Rattle.shift.specs.Shift.{shift}
 use Rattle.shift.specs.ToBoolean.{withBit, bitsFrom, toBoolean}
 use Rattle.psi.specs.Psi.{psi, psis, zOf, added}
-use Rattle.convert.specs.ToArithmetic.{rule, toArithmetic}
+use Rattle.few.specs.Rule.{rule}
+use Rattle.convert.specs.ToArithmetic.{toArithmetic}
 use Rattle.carries.specs.Carries.{floors, raised, raisedShift, carries, without}
 use Rattle.switching.specs.ToModulus.{toModulus}
 use Rattle.checks.specs.Checks.{inside, allBelow, firstFailing, checksOf, checks}

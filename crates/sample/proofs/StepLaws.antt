@@ -1,5 +1,5 @@
 -- Laws of the steps of one coefficient: what was drawn and converted, and the pass that takes γ1 − 1 off and closes.
-use mathlib.Core.Path.{_≡_, sym, ap, _∙_}
+use mathlib.Core.Path.{_≡_, ap, _∙_}
 use mathlib.Core.Bool.{true}
 use mathlib.Core.List.{List}
 use Prim.Native.Nat.{ℕ, _-_, _≤_}
@@ -10,12 +10,12 @@ use Rattle.tape.specs.declared.Cursor.{Cursor}
 use Rattle.tape.specs.Tape.{Ran}
 use Rattle.draws.specs.Draws.{Draws, bind, next, run}
 use Rattle.draws.specs.Plan.{drawAll}
-use Rattle.draws.proofs.RunLaws.{bind-assoc, run-bind}
+use Rattle.draws.proofs.RunLaws.{bind-assoc}
 use Rattle.shares.specs.declared.Shared.{Shared}
 use Rattle.shares.specs.Sharing.{arithmetic}
 use Rattle.shares.specs.Refresh.{refresh}
 use Rattle.shares.specs.Arrays.{Held, shared, Gave}
-use Rattle.shares.proofs.ArraysLaws.{given-as}
+use Rattle.shares.proofs.ArraysLaws.{given-as, followed}
 use Rattle.first.specs.First.{takeFromFirst}
 use Rattle.switching.specs.ToModulus.{toModulus}
 use Rattle.sample.specs.Sampling.{lowered, maskPlan, coefficient}
@@ -31,6 +31,5 @@ unfolding lowered coefficient
 closed p n tape c g a =
     let drawn : Draws (List ℕ) = drawAll (maskPlan p n) in
     given-as a
-    (ap (λ (x : Ran (List ℕ)). next x (λ xs d. run (refresh (arithmetic q) (lowered (p .gamma1) xs)) tape d)) (g .is)
-    ∙ sym (run-bind (bind drawn (toModulus q (p .mu))) _ tape c)
+    (followed (bind drawn (toModulus q (p .mu))) (λ ys. refresh (arithmetic q) (lowered (p .gamma1) ys)) tape c g
     ∙ ap (λ (d : Draws (List ℕ)). run d tape c) (bind-assoc drawn (toModulus q (p .mu)) _))

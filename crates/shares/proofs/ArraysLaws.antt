@@ -12,8 +12,10 @@ use Rattle.numbers.specs.Lists.{Words}
 use Rattle.numbers.proofs.WordsLaws.{words-at, words-set, words-same, copy-more}
 use Rattle.tape.specs.declared.Cursor.{Cursor}
 use Rattle.tape.specs.Tape.{Ran, ended, ran}
-use Rattle.draws.specs.Draws.{after, next}
-use Rattle.shares.specs.Arrays.{Held, Copied, handed, Given}
+use Rattle.draws.specs.Draws.{Draws, after, next, run, bind}
+use Rattle.draws.proofs.RunLaws.{run-bind}
+use Rattle.shares.specs.declared.Shared.{Shared}
+use Rattle.shares.specs.Arrays.{Held, Copied, handed, Given, shared, Gave}
 
 module _ {size n M : ℕ} {words : List ℕ} (a : Held size n M words) where
   pub held-at : (i : ℕ) → getD words i 0 < M
@@ -113,3 +115,8 @@ module _ {size n M : ℕ} {ok : Bool} {words : List ℕ} {c : Cursor} {x : Ran (
     where
       apart : {A : Type 0} → ok ≡ true → ok ≡ false → A
       apart t e = absurd (let z : _≡_ {A = ℕ} 0 1 = cc in omega arith)
+
+-- steps and what follows them, run at once
+pub followed : {n M : ℕ} {s : Shared} (d : Draws (List ℕ)) (f : List ℕ → Draws (List ℕ)) (tape : List ℕ) (p : Cursor) → Gave n M s (run d tape p) →
+    next (shared n s) (λ xs c. run (f xs) tape c) ≡ run (bind d f) tape p
+followed d f tape p g = rw (g .is) (sym (run-bind d f tape p))

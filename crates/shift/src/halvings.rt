@@ -1,6 +1,5 @@
 // The shift by t, from 2^t·m to m, and arithmetic shares mod 2^k to Boolean ones of width k, with a halving between bits. Both are one loop of
-// halvings, which gathers bits or not: with a loop for each, `halve` has two callers, the compiler makes a call of it, and a shift of two shares takes
-// twice the time.
+// halvings, which gathers bits or not: with a loop for each, `halve` has two callers, and the compiler makes a call of it, with the words copied around.
 use super::many::of_many;
 use super::two::of_two;
 use params::Params;

@@ -40,11 +40,8 @@ pub fn of_many(
         cur = s.cursor;
     }
     if gathers {
-        return Shared {
-            words: with_bit(bits, words, t),
-            cursor: cur,
-            ok: true,
-        };
+        let all = with_bit(bits, words, t);
+        words = all;
     }
     Shared {
         words,

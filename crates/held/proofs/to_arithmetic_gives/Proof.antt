@@ -1,7 +1,6 @@
 use borrow.Author.Needs.{needs}
-use mathlib.Core.Path.{_≡_, ap, ap₂, _∙_}
+use mathlib.Core.Path.{ap₂, _∙_}
 use Prim.Native.Nat.{ℕ, _^_}
-use native.Mathlib.Omega.{arith}
 use lib.ListN.{take}
 use denote.Ref.{now}
 use Rattle.tape.specs.declared.Cursor.{Cursor}
@@ -10,9 +9,9 @@ use Rattle.draws.specs.Draws.{bind, run}
 use Rattle.shares.specs.Sharing.{arithmetic}
 use Rattle.shares.specs.Refresh.{refresh}
 use Rattle.shares.specs.Arrays.{Gave}
-use Rattle.shares.proofs.ArraysLaws.{held-of, gave, stopped, given-as}
+use Rattle.shares.proofs.ArraysLaws.{held-of, gave, stopped, given-as, followed}
 use Rattle.convert.specs.ToArithmetic.{toArithmetic}
-use Rattle.held.proofs.HeldLaws.{followed, steps-none, steps-gave}
+use Rattle.held.proofs.HeldLaws.{steps-none, steps-gave}
 use Rattle.held.proofs.to_arithmetic_gives.Statement.{statement}
 use Rattle.held.proofs.to_arithmetic_gives.Tie as tie
 

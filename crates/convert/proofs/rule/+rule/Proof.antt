@@ -15,8 +15,9 @@ use Rattle.shares.specs.Refresh.{refresh}
 use Rattle.shares.proofs.ArraysLaws.{gave, stopped, whole, cut-off}
 use Rattle.psi.specs.Psi.{zOf}
 use Rattle.psi.proofs.ListLaws.{z-words}
-use Rattle.convert.specs.ToArithmetic as steps
-use Rattle.convert.proofs.RuleLaws.{refresh-ended, u-ended, z-ended, rule-gave, same-shares, three-asked, rule-three, rule-four, held-shorter, u-words, u-is, z-is, results-added}
+use Rattle.few.specs.Rule as steps
+use Rattle.few.proofs.RuleLaws.{refresh-ended, u-ended, z-ended, rule-gave, same-shares}
+use Rattle.convert.proofs.NineLaws.{three-asked, rule-three, rule-four, held-shorter, u-words, u-is, z-is, results-added}
 use borrow.Fn.Kinds.{In}
 use borrow.Fn.PlainCycle.{Measures, is, falls, and}
 use Rattle.convert.proofs.rule.+rule.{statement}
@@ -29,8 +30,8 @@ use Rattle.psi.proofs.u_of.Reads as u-of-reads
 use Rattle.psi.proofs.z_of.Reads as z-of-reads
 use Rattle.shares.proofs.Shared.ended.Reads as ended-reads
 use Rattle.convert.proofs.nine.refresh_nine.Reads as refresh-nine-reads
-use Rattle.convert.proofs.few.of_three.Reads as of-three-reads
-use Rattle.convert.proofs.few.of_four.Reads as of-four-reads
+use Rattle.few.proofs.of_three.Reads as of-three-reads
+use Rattle.few.proofs.of_four.Reads as of-four-reads
 
 abbrev μ-rule : Measures 1 rule-kinds.ps ℕ
 μ-rule κs a = a .1 .0

@@ -16,11 +16,11 @@ use Rattle.shift.proofs.two.of_two.Statement.{statement}
 use Rattle.shift.proofs.two.of_two.Tie as tie
 
 abbrev Inv-loop : tie.InvT-loop
-Inv-loop first second m t gathers tape x₀ y₀ u₀ v₀ modulus₀ cur₀ b₀ x y u v modulus cur b =
-    Halved 2 2 gathers m t tape (run (halvings gathers m t (x₀ ∷ y₀ ∷ [])) tape cur₀) b (x ∷ y ∷ []) (u ∷ v ∷ []) modulus cur
+Inv-loop x y m t gathers tape first₀ second₀ u₀ v₀ modulus₀ cur₀ b₀ first second u v modulus cur b =
+    Halved 2 2 gathers m t tape (run (halvings gathers m t (first₀ ∷ second₀ ∷ [])) tape cur₀) b (first ∷ second ∷ []) (u ∷ v ∷ []) modulus cur
 
 abbrev μ-loop : tie.MeasureT-loop
-μ-loop first second m t gathers tape x₀ y₀ u₀ v₀ modulus₀ cur₀ b₀ x y u v modulus cur b = t - b
+μ-loop x y m t gathers tape first₀ second₀ u₀ v₀ modulus₀ cur₀ b₀ first second u v modulus cur b = t - b
 
 power-requires : tie.Need-power-requires Inv-loop μ-loop
 power-requires c κs = let b = c .before in omega (arith, halved-fits (b .args .m) (b .args .t) (b .pre .0) (b .pre .1))
@@ -56,11 +56,11 @@ returns c = let t = c .before in
     let i = h .before .before .before in
     cut-off (c .ended .ensures) (halved-ended (i .before .loop .inv) (i .loop-test .taken) (stopped (h .halve-two .ensures) (t .if1 .taken)))
 
-element-copy-out-x : tie.Need-element-copy-out-x Inv-loop μ-loop
-element-copy-out-x c = search needs
+element-copy-out-first : tie.Need-element-copy-out-first Inv-loop μ-loop
+element-copy-out-first c = search needs
 
-element-copy-out-y : tie.Need-element-copy-out-y Inv-loop μ-loop
-element-copy-out-y c = search needs
+element-copy-out-second : tie.Need-element-copy-out-second Inv-loop μ-loop
+element-copy-out-second c = search needs
 
 add-b : tie.Need-add-b Inv-loop μ-loop
 add-b c = search needs
@@ -79,7 +79,7 @@ loop-again c = let e = c .before .before .before in
     let b = h .halve-two .ensures .below (not-false _ (e .if1 .left)) in
     halved-more l (i .loop-test .taken) (gave (h .halve-two .ensures) (e .if1 .left) ∙ ap (λ (xs : List ℕ). ran xs (r .cursor)) (sym (take-two (r .words) (omega (arith, b .size)))))
     (words-two (omega (arith, halved-held l (i .loop-test .taken) .two)) b)
-    (ap₂ (λ (u v : ℕ). u ∷ v ∷ []) (w .before .gathered-word .ensures) (w .gathered-word2 .ensures) ∙ gathered-two (i .before .before .before .before .args .gathers) (a .b) (a .x) (a .y) (a .u) (a .v))
+    (ap₂ (λ (u v : ℕ). u ∷ v ∷ []) (w .before .gathered-word .ensures) (w .gathered-word2 .ensures) ∙ gathered-two (i .before .before .before .before .args .gathers) (a .b) (a .first) (a .second) (a .u) (a .v))
 
 gathered-word-requires-3 : tie.Need-gathered-word-requires-3 Inv-loop μ-loop
 gathered-word-requires-3 c κs = let l = c .before in
@@ -117,8 +117,8 @@ of-two-spec =
     halve-two-requires
     ended-requires
     returns
-    element-copy-out-x
-    element-copy-out-y
+    element-copy-out-first
+    element-copy-out-second
     add-b
     loop-less
     loop-again

@@ -1,4 +1,4 @@
-// The rule on few shares, without arrays: of all calls of the rule half have three shares, where it ends, and half of the others four, right above these.
+// The rule of Boolean to arithmetic on few shares, without arrays: of all calls of the rule half have three shares, where it ends, and half of the others four, right above these.
 use psi::psi;
 use shares::Shared;
 use tape::Cursor;
@@ -10,7 +10,7 @@ ghost use Prim.Native.Nat.{_^_, _≤_};
 ghost use lib.ListN.{take};
 ghost use Rattle.draws.specs.Draws.{run};
 ghost use Rattle.shares.specs.Arrays.{Held, Gave};
-ghost use Rattle.convert.specs.ToArithmetic.{rule};
+ghost use Rattle.few.specs.Rule.{rule};
 
 // Three shares, x, y and z once they are refreshed. U is (y, z), and Z has two shares too; two shares give one, their exclusive or.
 pub fn of_three(a: u32, b: u32, c: u32, k: u32, cursor: Cursor, tape: &[u32]) -> Shared

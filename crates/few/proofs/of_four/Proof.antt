@@ -18,9 +18,9 @@ use Rattle.shares.specs.Refresh.{refresh}
 use Rattle.shares.proofs.ArraysLaws.{gave, stopped, whole, cut-off}
 use Rattle.psi.specs.Psi.{zOf}
 use Rattle.psi.proofs.ListLaws.{z-words}
-use Rattle.convert.proofs.RuleLaws.{refresh-ended, u-ended, z-ended, rule-gave, same-shares, Left, draw-ended, drew, four, refresh-four, fresh-below, four-z, four-added, four-below, three-held}
-use Rattle.convert.proofs.few.of_four.Statement.{statement}
-use Rattle.convert.proofs.few.of_four.Tie as tie
+use Rattle.few.proofs.RuleLaws.{refresh-ended, u-ended, z-ended, rule-gave, same-shares, Left, draw-ended, drew, four, refresh-four, fresh-below, four-z, four-added, four-below, three-held}
+use Rattle.few.proofs.of_four.Statement.{statement}
+use Rattle.few.proofs.of_four.Tie as tie
 
 -- the places of the draws
 abbrev drawn : tie.After-known-told → tie.After-draw

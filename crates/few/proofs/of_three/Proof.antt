@@ -6,9 +6,9 @@ use Rattle.numbers.specs.Modulo.{xor}
 use Rattle.tape.specs.Tape.{drawAt}
 use Rattle.tape.specs.Answers.{drawStandsFor}
 use Rattle.shares.proofs.ArraysLaws.{cut-off}
-use Rattle.convert.proofs.RuleLaws.{draw-ended, drew, refresh-three, refresh-ended, three-gave}
-use Rattle.convert.proofs.few.of_three.Statement.{statement}
-use Rattle.convert.proofs.few.of_three.Tie as tie
+use Rattle.few.proofs.RuleLaws.{draw-ended, drew, refresh-three, refresh-ended, three-gave}
+use Rattle.few.proofs.of_three.Statement.{statement}
+use Rattle.few.proofs.of_three.Tie as tie
 
 -- draws below m are below 2^k
 told : (c : tie.After-draw) → let s = c .before .before .before in drawStandsFor (c .draw .result) ≡ drawAt (now (s .args .tape)) (s .args .cursor) (2 ^ s .args .k)
