@@ -1,5 +1,5 @@
-// The self test: the cases by hand of document 01, run through the public gadgets, so that a device can tell at power-on that its build and
-// its processor keep to them.
+// The self test: the cases by hand of document 01, run through the public gadgets, of Boolean to arithmetic through its steps, so that a device can
+// tell at power-on that its build and its processor keep to them.
 mod cases;
 
 use cases::bounds;
