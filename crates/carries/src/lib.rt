@@ -13,7 +13,7 @@ ghost use Rattle.numbers.specs.Modulo.{q};
 ghost use Rattle.numbers.specs.Lists.{Words, along};
 ghost use Rattle.draws.specs.Draws.{run};
 ghost use Rattle.shares.specs.Arrays.{Held, Gave};
-ghost use Rattle.carries.specs.Carries.{raisedShift, carries};
+ghost use Rattle.halves.specs.Carries.{raisedShift, carries};
 
 // floor(x·c / q), which is below c. The divisor is a constant, so it compiles to a multiplication.
 fn floor_by_q(x: u32, c: u32) -> u32

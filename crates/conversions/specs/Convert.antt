@@ -2,8 +2,8 @@
 use Prim.Native.Nat.{ℕ, _^_}
 use Rattle.numbers.specs.Modulo.{q}
 use Rattle.shares.specs.Sharing.{arithmetic, boolean}
-use Rattle.convert.specs.ToArithmetic.{toArithmetic}
-use Rattle.switching.specs.ToModulus.{toModulus}
+use Rattle.rules.specs.ToArithmetic.{toArithmetic}
+use Rattle.masks.specs.ToModulus.{toModulus}
 use Rattle.checks.specs.Checks.{inside}
 use Rattle.gate.specs.Gadget.{Gadget, silentGadget}
 

@@ -1,2 +1,1 @@
-pub mod ToArithmetic
 pub mod Arrays

@@ -13,8 +13,8 @@ ghost use Prim.Native.Nat.{_-_, _^_, _≤_};
 ghost use lib.ListN.{take};
 ghost use Rattle.draws.specs.Draws.{run};
 ghost use Rattle.shares.specs.Arrays.{Held, Gave};
-ghost use Rattle.few.specs.Rule.{rule};
-ghost use Rattle.convert.specs.ToArithmetic.{toArithmetic};
+ghost use Rattle.rules.specs.Rule.{rule};
+ghost use Rattle.rules.specs.ToArithmetic.{toArithmetic};
 
 // With five shares or more the rule calls itself on U and then on Z, one share fewer each time.
 fn rule(shares: [u32; 9], s: usize, k: u32, cursor: Cursor, tape: &[u32]) -> Shared

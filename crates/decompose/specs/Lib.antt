@@ -1,4 +1,1 @@
-pub mod Decompose
 pub mod Answers
-pub mod Plain
-pub mod Remainder

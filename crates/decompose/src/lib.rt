@@ -17,7 +17,7 @@ ghost use Rattle.numbers.specs.Lists.{Words};
 ghost use Rattle.params.specs.Laws.{Laws};
 ghost use Rattle.draws.specs.Draws.{run};
 ghost use Rattle.shares.specs.Arrays.{Held, Gave};
-ghost use Rattle.decompose.specs.Decompose.{highShares, highPart, lowShares};
+ghost use Rattle.parts.specs.Decompose.{highShares, highPart, lowShares};
 ghost use Rattle.decompose.specs.Answers.{highStandsFor};
 
 // The high part and the place of the next word, or that the tape has ended.

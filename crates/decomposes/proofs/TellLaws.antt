@@ -15,7 +15,7 @@ use Rattle.gate.specs.declared.Answer.{Answer}
 use Rattle.gate.specs.Told.{Told, refusal, openedRan, silentRan, ranTold, standsFor}
 use Rattle.gate.specs.Gadget.{closed}
 use Rattle.gate.proofs.GadgetLaws.{run-opened}
-use Rattle.decompose.specs.Decompose.{highPart, lowShares, decompose}
+use Rattle.parts.specs.Decompose.{highPart, lowShares, decompose}
 use Rattle.decomposes.specs.declared.Decomposed.{Decomposed}
 use Rattle.decomposes.specs.Answers.{partsStandFor}
 

@@ -4,7 +4,7 @@ use Rattle.numbers.specs.Modulo.{q}
 use Rattle.params.specs.Sets.{known, paramsOf}
 use Rattle.shares.specs.Sharing.{arithmetic}
 use Rattle.gate.specs.Gadget.{Gadget}
-use Rattle.decompose.specs.Decompose.{decompose}
+use Rattle.parts.specs.Decompose.{decompose}
 
 -- modulo q, with one number opened; set 44, 65 or 87
 unfoldable pub decomposeGadget : ℕ → Gadget

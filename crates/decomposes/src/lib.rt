@@ -23,7 +23,7 @@ ghost use Rattle.shares.specs.Refresh.{refresh};
 ghost use Rattle.checks.specs.Checks.{Checked};
 ghost use Rattle.gate.specs.Told.{refusal, ranTold};
 ghost use Rattle.gate.specs.Gadget.{closed, tells};
-ghost use Rattle.decompose.specs.Decompose.{decompose};
+ghost use Rattle.parts.specs.Decompose.{decompose};
 ghost use Rattle.decomposes.specs.Decompose.{decomposeGadget};
 ghost use Rattle.decomposes.specs.Answers.{partsStandFor};
 

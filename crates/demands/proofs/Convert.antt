@@ -14,12 +14,12 @@ use Rattle.numbers.proofs.FoldLaws.{fold-below}
 use Rattle.params.proofs.RoomLaws.{alpha-most}
 use Rattle.draws.proofs.PlanLaws.{gives-map}
 use Rattle.shares.specs.Refresh.{refreshPlan}
-use Rattle.shift.specs.Shift.{shiftPlan}
-use Rattle.shift.proofs.FloorLaws.{shift-draws}
-use Rattle.convert.specs.ToArithmetic.{toArithmeticPlan}
-use Rattle.convert.proofs.ValueLaws.{draws-fit, to-arithmetic-keeps}
-use Rattle.switching.specs.ToModulus.{toModulusPlan}
-use Rattle.switching.proofs.ValueLaws.{to-modulus-keeps}
+use Rattle.halves.specs.Shift.{shiftPlan}
+use Rattle.halves.proofs.FloorLaws.{shift-draws}
+use Rattle.rules.specs.ToArithmetic.{toArithmeticPlan}
+use Rattle.rules.proofs.ArithmeticGives.{draws-fit, to-arithmetic-keeps}
+use Rattle.masks.specs.ToModulus.{toModulusPlan}
+use Rattle.masks.proofs.ModulusGives.{to-modulus-keeps}
 use Rattle.gate.specs.Told.{standsFor, silent}
 use Rattle.gate.specs.Gadget.{silentSteps, tells}
 use Rattle.conversions.specs.Convert.{toArithmeticGadget, toModQGadget}

@@ -10,16 +10,16 @@ use Rattle.numbers.specs.Lists.{sum}
 use Rattle.params.specs.Sets.{Known, paramsOf}
 use Rattle.params.proofs.SetLaws.{set-laws}
 use Rattle.params.proofs.RoomLaws.{half-least}
-use Rattle.decompose.specs.Remainder.{Remainder}
-use Rattle.decompose.proofs.PlainLaws.{remainder-is}
+use Rattle.parts.specs.Remainder.{Remainder}
+use Rattle.parts.proofs.PlainLaws.{remainder-is}
 use Rattle.draws.proofs.PlanLaws.{gives-as}
 use Rattle.shares.specs.Sharing.{arithmetic}
 use Rattle.shares.specs.Refresh.{refreshPlan}
-use Rattle.shift.specs.Shift.{shiftPlan}
-use Rattle.shift.proofs.FloorLaws.{shift-draws}
+use Rattle.halves.specs.Shift.{shiftPlan}
+use Rattle.halves.proofs.FloorLaws.{shift-draws}
 use Rattle.gate.specs.Gadget.{tells}
-use Rattle.decompose.specs.Decompose.{highPlan}
-use Rattle.decompose.proofs.ValueLaws.{decompose-gives}
+use Rattle.parts.specs.Decompose.{highPlan}
+use Rattle.parts.proofs.DecomposeGives.{decompose-gives}
 use Rattle.decomposes.specs.Decompose.{decomposeGadget}
 use Rattle.decomposes.specs.Answers.{partsStandFor}
 use Rattle.demands.specs.Claim.{plan}

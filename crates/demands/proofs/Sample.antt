@@ -11,12 +11,12 @@ use Rattle.params.proofs.RoomLaws.{alpha-most, mask-most}
 use Rattle.params.proofs.SetLaws.{set-laws}
 use Rattle.gate.specs.Told.{standsFor}
 use Rattle.gate.specs.Sampler.{samples}
-use Rattle.sample.specs.Sampling.{maskPlan, coefficientPlan}
-use Rattle.polynomial.specs.Polynomial.{polynomialPlan}
-use Rattle.sample.proofs.ValueLaws.{coefficient-gives}
-use Rattle.sample.proofs.MaskLaws.{coefficient-masks}
-use Rattle.polynomial.proofs.ValueLaws.{polynomial-gives}
-use Rattle.polynomial.proofs.MaskLaws.{polynomial-masks}
+use Rattle.masks.specs.Sampling.{maskPlan, coefficientPlan}
+use Rattle.masks.specs.Polynomial.{polynomialPlan}
+use Rattle.masks.proofs.SampleGives.{coefficient-gives}
+use Rattle.masks.proofs.MaskLaws.{coefficient-masks}
+use Rattle.masks.proofs.PolynomialGives.{polynomial-gives}
+use Rattle.masks.proofs.MasksLaws.{polynomial-masks}
 use Rattle.samplers.specs.Samplers.{sampler, polynomialSampler}
 use Rattle.conversions.specs.Convert.{toModQGadget}
 use Rattle.demands.specs.Claim.{plan}

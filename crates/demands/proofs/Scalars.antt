@@ -27,12 +27,12 @@ use Rattle.shares.specs.Sharing.{arithmetic}
 use Rattle.shares.proofs.SharingLaws.{Shares}
 use Rattle.gate.specs.Told.{Told, Outcome}
 use Rattle.gate.specs.Judge.{judgeCall, judges}
-use Rattle.verdict.specs.Verdict.{verdictOf, judged, verdict, verdictPlan}
-use Rattle.verdict.specs.Plain.{accepted, openedOf}
-use Rattle.verdict.specs.LastScalar.{lastScalarMarks}
-use Rattle.verdict.proofs.PlainLaws.{accepted-not-zero}
-use Rattle.verdict.proofs.ValueLaws.{Opens, verdict-feed, rejected-opens, accepted-opens}
-use Rattle.verdict.proofs.ScalarLaws.{earlier, plan-last, is-last, one-last-scalar}
+use Rattle.sizes.specs.Verdict.{verdictOf, judged, verdict, verdictPlan}
+use Rattle.sizes.specs.Plain.{accepted, openedOf}
+use Rattle.sizes.specs.LastScalar.{lastScalarMarks}
+use Rattle.sizes.proofs.PlainLaws.{accepted-not-zero}
+use Rattle.sizes.proofs.VerdictGives.{Opens, verdict-feed, rejected-opens, accepted-opens}
+use Rattle.sizes.proofs.ScalarLaws.{earlier, plan-last, is-last, one-last-scalar}
 use Rattle.judges.specs.Verdict.{verdictGadget}
 use Rattle.demands.specs.Call.{Valid}
 use Rattle.demands.specs.Verdict.{meant, Within, verdictClaim}

@@ -10,10 +10,10 @@ use Rattle.draws.proofs.PlanLaws.{gives-map}
 use Rattle.shares.specs.Sharing.{arithmetic}
 use Rattle.shares.specs.Refresh.{refreshPlan}
 use Rattle.shares.proofs.SharingLaws.{Shares}
-use Rattle.shift.specs.Shift.{shiftPlan}
-use Rattle.shift.specs.ToBoolean.{toBooleanPlan}
-use Rattle.shift.proofs.FloorLaws.{shift-floor, shift-draws}
-use Rattle.shift.proofs.BooleanLaws.{to-boolean-keeps}
+use Rattle.halves.specs.Shift.{shiftPlan}
+use Rattle.halves.specs.ToBoolean.{toBooleanPlan}
+use Rattle.halves.proofs.FloorLaws.{shift-floor, shift-draws}
+use Rattle.halves.proofs.BooleanLaws.{to-boolean-keeps}
 use Rattle.gate.specs.Told.{standsFor, silent}
 use Rattle.gate.specs.Gadget.{silentSteps, tells}
 use Rattle.shifts.specs.Shift.{shiftGadget, toBooleanGadget}

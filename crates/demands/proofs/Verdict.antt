@@ -9,16 +9,16 @@ use Rattle.numbers.specs.Bits.{alpha}
 use Rattle.params.specs.declared.Bounds.{Bounds}
 use Rattle.shares.specs.Sharing.{arithmetic}
 use Rattle.shares.specs.Refresh.{refreshPlan}
-use Rattle.shift.specs.Shift.{shiftPlan}
-use Rattle.shift.proofs.FloorLaws.{shift-draws}
+use Rattle.halves.specs.Shift.{shiftPlan}
+use Rattle.halves.proofs.FloorLaws.{shift-draws}
 use Rattle.gate.specs.Told.{Told}
 use Rattle.gate.specs.Judge.{judges}
-use Rattle.widening.specs.Widening.{widenPlan}
-use Rattle.product.specs.Product.{productPlan}
-use Rattle.zero.specs.ZeroTest.{scalesPlan}
-use Rattle.sides.specs.Sides.{sidesPlan}
-use Rattle.verdict.specs.Verdict.{frontPlan, verdictPlan}
-use Rattle.zero.proofs.ZeroLaws.{scales-length}
+use Rattle.sizes.specs.Widening.{widenPlan}
+use Rattle.sizes.specs.Product.{productPlan}
+use Rattle.sizes.specs.ZeroTest.{scalesPlan}
+use Rattle.sizes.specs.Sides.{sidesPlan}
+use Rattle.sizes.specs.Verdict.{frontPlan, verdictPlan}
+use Rattle.sizes.proofs.ZeroLaws.{scales-length}
 use Rattle.judges.specs.declared.Judged.{Judged}
 use Rattle.judges.specs.Verdict.{verdictGadget}
 use Rattle.judges.specs.Answers.{judgedStandsFor}

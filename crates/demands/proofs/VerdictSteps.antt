@@ -22,9 +22,9 @@ use Rattle.gate.specs.Told.{Outcome, checkNumber}
 use Rattle.gate.specs.Judge.{judgeChecks, judgeCall, judges}
 use Rattle.checks.proofs.CheckLaws.{number-most, below-most, below-words, words-below, below-fails, below-passes, all-passed}
 use Rattle.gate.proofs.GadgetLaws.{judge-checks}
-use Rattle.verdict.specs.Verdict.{verdictOf, verdict, verdictPlan}
-use Rattle.verdict.specs.Plain.{openedOf}
-use Rattle.verdict.proofs.ValueLaws as Value
+use Rattle.sizes.specs.Verdict.{verdictOf, verdict, verdictPlan}
+use Rattle.sizes.specs.Plain.{openedOf}
+use Rattle.sizes.proofs.VerdictGives as Value
 use Rattle.widens.specs.Widen.{kindRange}
 use Rattle.judges.specs.Verdict.{verdictGadget}
 use Rattle.demands.specs.Call.{Valid}

@@ -10,12 +10,12 @@ use Rattle.numbers.specs.Lists.{sum}
 use Rattle.params.specs.Sets.{kindOf}
 use Rattle.draws.proofs.PlanLaws.{gives-map}
 use Rattle.shares.specs.Refresh.{refreshPlan}
-use Rattle.shift.proofs.FloorLaws.{shift-draws}
+use Rattle.halves.proofs.FloorLaws.{shift-draws}
 use Rattle.gate.specs.Told.{standsFor, silent}
 use Rattle.gate.specs.Gadget.{silentSteps, tells}
-use Rattle.widening.specs.Widening.{widenPlan}
-use Rattle.widening.proofs.StepLaws.{wide-two}
-use Rattle.widening.proofs.ValueLaws.{widen-gives}
+use Rattle.sizes.specs.Widening.{widenPlan}
+use Rattle.sizes.proofs.WideningSteps.{wide-two}
+use Rattle.sizes.proofs.WideningGives.{widen-gives}
 use Rattle.widens.specs.Widen.{widenGadget}
 use Rattle.demands.specs.Claim.{plan}
 use Rattle.demands.specs.Demands.{Demands}

@@ -1,8 +1,8 @@
 -- What is claimed of Boolean to arithmetic, mod 2^k and mod q (document 01, "Steps" and "What a caller gets back"): the value is kept.
 use Prim.Native.Nat.{ℕ, _≤_}
 use Rattle.numbers.specs.Modulo.{q}
-use Rattle.convert.specs.ToArithmetic.{toArithmeticPlan}
-use Rattle.switching.specs.ToModulus.{toModulusPlan}
+use Rattle.rules.specs.ToArithmetic.{toArithmeticPlan}
+use Rattle.masks.specs.ToModulus.{toModulusPlan}
 use Rattle.conversions.specs.Convert.{toArithmeticGadget, toModQGadget}
 use Rattle.demands.specs.Claim.{Claim, keeping}
 

@@ -5,8 +5,8 @@ use Prim.Native.Nat.{ℕ}
 use Rattle.numbers.specs.Modulo.{q}
 use Rattle.numbers.specs.Centred.{centred}
 use Rattle.params.specs.Sets.{Known, paramsOf}
-use Rattle.decompose.specs.Decompose.{highPlan}
-use Rattle.decompose.specs.Plain.{highOf, lowOf}
+use Rattle.parts.specs.Decompose.{highPlan}
+use Rattle.parts.specs.Plain.{highOf, lowOf}
 use Rattle.decomposes.specs.Decompose.{decomposeGadget}
 use Rattle.demands.specs.Claim.{Claim}
 

@@ -3,10 +3,10 @@ use Prim.Native.Nat.{ℕ}
 use lib.ListN.{length, replicate}
 use Rattle.params.specs.Sets.{Known, paramsOf}
 use Rattle.tape.specs.Tape.{start}
-use Rattle.sample.specs.Sampling.{coefficientPlan}
-use Rattle.polynomial.specs.Polynomial.{polynomialPlan}
-use Rattle.sample.specs.Mask.{Mask}
-use Rattle.polynomial.specs.Masks.{Masks}
+use Rattle.masks.specs.Sampling.{coefficientPlan}
+use Rattle.masks.specs.Polynomial.{polynomialPlan}
+use Rattle.masks.specs.Mask.{Mask}
+use Rattle.masks.specs.Masks.{Masks}
 use Rattle.samplers.specs.Samplers.{sampler, polynomialSampler}
 use Rattle.demands.specs.SamplerClaim.{SamplerClaim}
 

@@ -10,9 +10,9 @@ use Rattle.params.specs.Sets.{kindOf}
 use Rattle.tape.specs.Tape.{start}
 use Rattle.draws.specs.Anew.{OneAnew}
 use Rattle.gate.specs.Judge.{judges}
-use Rattle.verdict.specs.Verdict.{verdictPlan}
-use Rattle.verdict.specs.Plain.{accepted}
-use Rattle.verdict.specs.LastScalar.{lastScalarMarks}
+use Rattle.sizes.specs.Verdict.{verdictPlan}
+use Rattle.sizes.specs.Plain.{accepted}
+use Rattle.sizes.specs.LastScalar.{lastScalarMarks}
 use Rattle.judges.specs.Verdict.{verdictGadget}
 use Rattle.demands.specs.Call.{Valid}
 use Rattle.demands.specs.Verdict.{meant, Within, verdictClaim}

@@ -2,8 +2,8 @@
 use mathlib.Core.Path.{_≡_}
 use mathlib.Core.List.{[]}
 use Prim.Native.Nat.{ℕ, _/_, _%_, _^_, _≤_}
-use Rattle.shift.specs.Shift.{shiftPlan}
-use Rattle.shift.specs.ToBoolean.{toBooleanPlan}
+use Rattle.halves.specs.Shift.{shiftPlan}
+use Rattle.halves.specs.ToBoolean.{toBooleanPlan}
 use Rattle.shifts.specs.Shift.{shiftGadget, toBooleanGadget}
 use Rattle.demands.specs.Claim.{Claim, keeping}
 

@@ -18,8 +18,8 @@ use Rattle.draws.specs.Plan.{drawAll}
 use Rattle.shares.specs.Sharing.{arithmetic, value}
 use Rattle.gate.specs.Told.{Outcome}
 use Rattle.gate.specs.Judge.{judgeCall}
-use Rattle.verdict.specs.Verdict.{verdictOf, verdictPlan}
-use Rattle.verdict.specs.Plain.{accepted, openedOf}
+use Rattle.sizes.specs.Verdict.{verdictOf, verdictPlan}
+use Rattle.sizes.specs.Plain.{accepted, openedOf}
 use Rattle.judges.specs.Verdict.{verdictGadget}
 use Rattle.demands.specs.Call.{CallClaim, Counted}
 

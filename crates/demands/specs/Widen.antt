@@ -6,7 +6,7 @@ use lib.IntN.{natAbs}
 use Rattle.numbers.specs.Modulo.{q}
 use Rattle.numbers.specs.Centred.{centred}
 use Rattle.params.specs.Sets.{Known, kindOf}
-use Rattle.widening.specs.Widening.{widenPlan}
+use Rattle.sizes.specs.Widening.{widenPlan}
 use Rattle.widens.specs.Widen.{widenGadget}
 use Rattle.demands.specs.Claim.{Claim}
 

@@ -10,7 +10,7 @@ ghost use Prim.Native.Nat.{_^_, _≤_};
 ghost use lib.ListN.{take};
 ghost use Rattle.draws.specs.Draws.{run};
 ghost use Rattle.shares.specs.Arrays.{Held, Gave};
-ghost use Rattle.few.specs.Rule.{rule};
+ghost use Rattle.rules.specs.Rule.{rule};
 
 // Three shares, x, y and z once they are refreshed. U is (y, z), and Z has two shares too; two shares give one, their exclusive or.
 pub fn of_three(a: u32, b: u32, c: u32, k: u32, cursor: Cursor, tape: &[u32]) -> Shared

@@ -11,8 +11,8 @@ ghost use lib.ListN.{take};
 ghost use Rattle.numbers.specs.Lists.{Words};
 ghost use Rattle.draws.specs.Draws.{run};
 ghost use Rattle.shares.specs.Arrays.{Held, Gave};
-ghost use Rattle.halving.specs.Halving.{join, sharedParity};
-ghost use Rattle.halving.specs.AtOnce.{signed, joined};
+ghost use Rattle.halves.specs.Halving.{join, sharedParity};
+ghost use Rattle.halves.specs.AtOnce.{signed, joined};
 
 // A word with the sign that a parity asks for. The parity is a factor, not a test: it is as good as random, so half of all branches on it would be
 // foreseen wrongly.

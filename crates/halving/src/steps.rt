@@ -11,7 +11,7 @@ ghost use lib.ListN.{take};
 ghost use Rattle.numbers.specs.Lists.{Words};
 ghost use Rattle.draws.specs.Draws.{run};
 ghost use Rattle.shares.specs.Arrays.{Held, Gave};
-ghost use Rattle.halving.specs.Halving.{less, evened, halves, halving};
+ghost use Rattle.halves.specs.Halving.{less, evened, halves, halving};
 
 // The steps after the shared parity, in one pass that ends at the last share: A is subtracted, the parities of the others move into the last, and all
 // are halved. Each word is written once, and nothing is done for the places after the last.

@@ -9,7 +9,7 @@ ghost use mathlib.Core.List.{[], _∷_};
 ghost use Prim.Native.Nat.{_*_, _≤_, _<_};
 ghost use Rattle.draws.specs.Draws.{run};
 ghost use Rattle.shares.specs.Arrays.{Gave};
-ghost use Rattle.halving.specs.Halving.{halving};
+ghost use Rattle.halves.specs.Halving.{halving};
 
 pub fn halve_two(x: u32, y: u32, m: u32, cursor: Cursor, tape: &[u32]) -> Shared
     requires { ⌜ (x < 2 * m) × (y < 2 * m) × (m ≤ 2147483647) ⌝ }

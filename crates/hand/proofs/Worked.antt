@@ -11,23 +11,23 @@ use Rattle.draws.specs.Plan.{drawAll}
 use Rattle.shares.specs.Sharing.{move, negated}
 use Rattle.shares.specs.Refresh.{turn, refresh}
 use Rattle.first.specs.First.{addToFirst, takeFromFirst}
-use Rattle.halving.specs.Halving.{join, joinTurn, sharedParity, less, moveParity, evened, halves, halving}
-use Rattle.shift.specs.Shift.{shift}
-use Rattle.shift.specs.ToBoolean.{withBit, bitsFrom, toBoolean}
-use Rattle.psi.specs.Psi.{psi, psis, zOf, added}
-use Rattle.few.specs.Rule.{rule}
-use Rattle.convert.specs.ToArithmetic.{toArithmetic}
-use Rattle.carries.specs.Carries.{floors, raised, raisedShift, carries, without}
-use Rattle.switching.specs.ToModulus.{toModulus}
+use Rattle.halves.specs.Halving.{join, joinTurn, sharedParity, less, moveParity, evened, halves, halving}
+use Rattle.halves.specs.Shift.{shift}
+use Rattle.halves.specs.ToBoolean.{withBit, bitsFrom, toBoolean}
+use Rattle.rules.specs.Psi.{psi, psis, zOf, added}
+use Rattle.rules.specs.Rule.{rule}
+use Rattle.rules.specs.ToArithmetic.{toArithmetic}
+use Rattle.halves.specs.Carries.{floors, raised, raisedShift, carries, without}
+use Rattle.masks.specs.ToModulus.{toModulus}
 use Rattle.checks.specs.Checks.{inside, allBelow, firstFailing, checksOf, checks}
 use Rattle.gate.specs.Told.{refusal, ranTold, checkNumber, told}
 use Rattle.gate.specs.Gadget.{silentSteps, closed, tells}
 use Rattle.gate.specs.Sampler.{samples}
-use Rattle.sample.specs.Sampling.{lowered, coefficient}
-use Rattle.polynomial.specs.Polynomial.{filled, row, polynomial}
+use Rattle.masks.specs.Sampling.{lowered, coefficient}
+use Rattle.masks.specs.Polynomial.{filled, row, polynomial}
 use Rattle.samplers.specs.Samplers.{sampler, polynomialSampler}
-use Rattle.widening.specs.Widening.{widen}
-use Rattle.decompose.specs.Decompose.{highShares, highPart, lowShares, decompose}
+use Rattle.sizes.specs.Widening.{widen}
+use Rattle.parts.specs.Decompose.{highShares, highPart, lowShares, decompose}
 use Rattle.widens.specs.Widen.{kindRange, widenGadget}
 use Rattle.decomposes.specs.Decompose.{decomposeGadget}
 use Rattle.shifts.specs.Shift.{shiftRange, shiftGadget, toBooleanGadget}

@@ -10,17 +10,17 @@ use Rattle.draws.specs.Draws.{after, next, run, bind, turns, each}
 use Rattle.shares.specs.Sharing.{negated, move}
 use Rattle.shares.specs.Refresh.{turn, refresh, refreshPlan}
 use Rattle.first.specs.First.{addToFirst, takeFromFirst}
-use Rattle.halving.specs.Halving.{join, joinTurn, sharedParity, less, moveParity, evened, halves, halving, halvingPlan}
-use Rattle.shift.specs.Shift.{shift, shiftPlan}
-use Rattle.carries.specs.Carries.{floors, raised, raisedShift, carries, without}
+use Rattle.halves.specs.Halving.{join, joinTurn, sharedParity, less, moveParity, evened, halves, halving, halvingPlan}
+use Rattle.halves.specs.Shift.{shift, shiftPlan}
+use Rattle.halves.specs.Carries.{floors, raised, raisedShift, carries, without}
 use Rattle.checks.specs.Checks.{inside, allBelow, firstFailing, checksOf, checks, leaveOut}
 use Rattle.gate.specs.Told.{refusal, ranTold, checkNumber, told}
 use Rattle.gate.specs.Judge.{judgeChecks, judges}
-use Rattle.widening.specs.Widening.{widen, widenPlan}
-use Rattle.product.specs.Product.{begun, crossed, pair, row, product, productPlan}
-use Rattle.zero.specs.ZeroTest.{scaled, scaleTurn, zeroTest, scalePlan, scalesPlan}
-use Rattle.sides.specs.Sides.{side, sidesProduct, sidesPlan}
-use Rattle.verdict.specs.Verdict.{tested, verdictOf, verdict, frontPlan, verdictPlan}
+use Rattle.sizes.specs.Widening.{widen, widenPlan}
+use Rattle.sizes.specs.Product.{begun, crossed, pair, row, product, productPlan}
+use Rattle.sizes.specs.ZeroTest.{scaled, scaleTurn, zeroTest, scalePlan, scalesPlan}
+use Rattle.sizes.specs.Sides.{side, sidesProduct, sidesPlan}
+use Rattle.sizes.specs.Verdict.{tested, verdictOf, verdict, frontPlan, verdictPlan}
 use Rattle.widens.specs.Widen.{kindRange}
 use Rattle.judges.specs.Verdict.{verdictGadget}
 use Rattle.hand.specs.WorkedVerdict.{WorkedVerdict}

@@ -6,12 +6,12 @@ use lib.IntN.{ℤ, pos, negℤ}
 use Rattle.numbers.specs.Modulo.{q}
 use Rattle.params.specs.Sets.{paramsOf}
 use Rattle.tape.specs.Tape.{start, ran, drawAt}
-use Rattle.psi.specs.Psi.{psi}
+use Rattle.rules.specs.Psi.{psi}
 use Rattle.gate.specs.Told.{Told}
 use Rattle.gate.specs.Gadget.{tells}
 use Rattle.gate.specs.Sampler.{samples}
 use Rattle.samplers.specs.Samplers.{sampler}
-use Rattle.decompose.specs.Plain.{highOf, lowOf}
+use Rattle.parts.specs.Plain.{highOf, lowOf}
 use Rattle.shifts.specs.Shift.{shiftGadget, toBooleanGadget}
 use Rattle.conversions.specs.Convert.{toArithmeticGadget}
 

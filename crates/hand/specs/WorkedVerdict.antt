@@ -8,8 +8,8 @@ use Rattle.params.specs.Sets.{kindOf}
 use Rattle.tape.specs.Tape.{ran, start}
 use Rattle.draws.specs.Draws.{run}
 use Rattle.gate.specs.Judge.{judges}
-use Rattle.product.specs.Product.{product}
-use Rattle.verdict.specs.Verdict.{tested, verdictPlan}
+use Rattle.sizes.specs.Product.{product}
+use Rattle.sizes.specs.Verdict.{tested, verdictPlan}
 use Rattle.judges.specs.Verdict.{verdictGadget}
 
 -- for two shares: 24 draws, and two words that are skipped

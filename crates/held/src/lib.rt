@@ -21,7 +21,7 @@ ghost use Rattle.draws.specs.Draws.{bind, run};
 ghost use Rattle.shares.specs.Sharing.{arithmetic};
 ghost use Rattle.shares.specs.Refresh.{refresh};
 ghost use Rattle.shares.specs.Arrays.{Held};
-ghost use Rattle.convert.specs.ToArithmetic.{toArithmetic};
+ghost use Rattle.rules.specs.ToArithmetic.{toArithmetic};
 ghost use Rattle.gate.specs.Gadget.{tells};
 ghost use Rattle.gate.specs.Judge.{judges};
 ghost use Rattle.gate.specs.Sampler.{samples};

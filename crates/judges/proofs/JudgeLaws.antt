@@ -10,7 +10,7 @@ use Rattle.draws.specs.Draws.{run}
 use Rattle.draws.proofs.RunLaws.{run-done, part-ran, part-ended}
 use Rattle.shares.specs.Sharing.{arithmetic, value}
 use Rattle.gate.specs.Told.{refusal, ranTold}
-use Rattle.verdict.specs.Verdict.{tested, verdictOf, verdict}
+use Rattle.sizes.specs.Verdict.{tested, verdictOf, verdict}
 use Rattle.judges.specs.declared.Judged.{Judged}
 use Rattle.judges.specs.Answers.{judgedStandsFor}
 

@@ -5,7 +5,7 @@ use Rattle.params.specs.Sets.{kindOf}
 use Rattle.shares.specs.Sharing.{arithmetic}
 use Rattle.widens.specs.Widen.{kindRange}
 use Rattle.gate.specs.Judge.{Judge}
-use Rattle.verdict.specs.Verdict.{verdict}
+use Rattle.sizes.specs.Verdict.{verdict}
 
 -- modulo q, with no shares in its answer, but the verdict and the opened number
 unfoldable pub verdictGadget : (set kind : ℕ) → Judge

@@ -19,7 +19,7 @@ ghost use Rattle.draws.specs.Draws.{run};
 ghost use Rattle.checks.specs.Checks.{Checked};
 ghost use Rattle.gate.specs.Told.{refusal, ranTold};
 ghost use Rattle.gate.specs.Judge.{judges};
-ghost use Rattle.verdict.specs.Verdict.{verdictOf, verdict};
+ghost use Rattle.sizes.specs.Verdict.{verdictOf, verdict};
 ghost use Rattle.judges.specs.Verdict.{verdictGadget};
 ghost use Rattle.judges.specs.Answers.{judgedStandsFor};
 

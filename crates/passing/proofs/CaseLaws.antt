@@ -16,27 +16,27 @@ use Rattle.draws.specs.Plan.{drawAll}
 use Rattle.shares.specs.Sharing.{arithmetic, negated, move}
 use Rattle.shares.specs.Refresh.{turn, refresh}
 use Rattle.first.specs.First.{addToFirst, takeFromFirst}
-use Rattle.halving.specs.Halving.{join, joinTurn, sharedParity, less, moveParity, evened, halves, halving}
-use Rattle.shift.specs.Shift.{shift}
-use Rattle.shift.specs.ToBoolean.{withBit, bitsFrom, toBoolean}
-use Rattle.psi.specs.Psi.{psi, psis, zOf, added}
-use Rattle.few.specs.Rule.{rule}
-use Rattle.convert.specs.ToArithmetic.{toArithmetic}
-use Rattle.carries.specs.Carries.{floors, raised, raisedShift, carries, without}
-use Rattle.switching.specs.ToModulus.{toModulus}
+use Rattle.halves.specs.Halving.{join, joinTurn, sharedParity, less, moveParity, evened, halves, halving}
+use Rattle.halves.specs.Shift.{shift}
+use Rattle.halves.specs.ToBoolean.{withBit, bitsFrom, toBoolean}
+use Rattle.rules.specs.Psi.{psi, psis, zOf, added}
+use Rattle.rules.specs.Rule.{rule}
+use Rattle.rules.specs.ToArithmetic.{toArithmetic}
+use Rattle.halves.specs.Carries.{floors, raised, raisedShift, carries, without}
+use Rattle.masks.specs.ToModulus.{toModulus}
 use Rattle.checks.specs.Checks.{inside, allBelow, firstFailing, checksOf, checks, leaveOut}
 use Rattle.gate.specs.Told.{Told, refusal, ranTold, checkNumber, told}
 use Rattle.gate.specs.Gadget.{silentSteps, closed, tells}
 use Rattle.gate.specs.Sampler.{samples}
 use Rattle.gate.specs.Judge.{judgeChecks, judges}
-use Rattle.sample.specs.Sampling.{lowered, coefficient}
+use Rattle.masks.specs.Sampling.{lowered, coefficient}
 use Rattle.samplers.specs.Samplers.{sampler}
-use Rattle.widening.specs.Widening.{widen}
-use Rattle.decompose.specs.Decompose.{highShares, highPart, lowShares, decompose}
-use Rattle.product.specs.Product.{begun, crossed, pair, row, product}
-use Rattle.zero.specs.ZeroTest.{scaled, scaleTurn, zeroTest}
-use Rattle.sides.specs.Sides.{side, sidesProduct}
-use Rattle.verdict.specs.Verdict.{tested, verdictOf, verdict}
+use Rattle.sizes.specs.Widening.{widen}
+use Rattle.parts.specs.Decompose.{highShares, highPart, lowShares, decompose}
+use Rattle.sizes.specs.Product.{begun, crossed, pair, row, product}
+use Rattle.sizes.specs.ZeroTest.{scaled, scaleTurn, zeroTest}
+use Rattle.sizes.specs.Sides.{side, sidesProduct}
+use Rattle.sizes.specs.Verdict.{tested, verdictOf, verdict}
 use Rattle.refreshes.specs.Refresh.{refreshGadget}
 use Rattle.shifts.specs.Shift.{shiftRange, shiftGadget, toBooleanGadget}
 use Rattle.widens.specs.Widen.{kindRange}

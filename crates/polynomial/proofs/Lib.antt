@@ -1,3 +1,1 @@
-pub mod RowLaws
-pub mod ValueLaws
-pub mod MaskLaws
+pub mod WrittenLaws

@@ -1,3 +1,1 @@
-pub mod Polynomial
 pub mod Answers
-pub mod Masks

@@ -10,8 +10,8 @@ ghost use lib.ListN.{length};
 ghost use Rattle.tape.specs.Tape.{start};
 ghost use Rattle.params.specs.Laws.{Laws};
 ghost use Rattle.draws.specs.Draws.{run};
-ghost use Rattle.sample.specs.Sampling.{coefficient};
-ghost use Rattle.polynomial.specs.Polynomial.{polynomial};
+ghost use Rattle.masks.specs.Sampling.{coefficient};
+ghost use Rattle.masks.specs.Polynomial.{polynomial};
 ghost use Rattle.polynomial.specs.Answers.{writtenStandsFor};
 
 // What was lent is filled, and the place of the next word; or the tape has ended, and nothing is said of what was lent.

@@ -13,7 +13,7 @@ ghost use Rattle.numbers.specs.Modulo.{q, subMod};
 ghost use Rattle.numbers.specs.Lists.{Words};
 ghost use Rattle.draws.specs.Draws.{run};
 ghost use Rattle.shares.specs.Arrays.{Held, Gave};
-ghost use Rattle.product.specs.Product.{begun, crossed, row, product};
+ghost use Rattle.sizes.specs.Product.{begun, crossed, row, product};
 
 // l·r of each pair of words at one place.
 fn begun(l: [u32; Params::MOST], r: [u32; Params::MOST]) -> [u32; Params::MOST]

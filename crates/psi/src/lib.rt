@@ -8,7 +8,7 @@ ghost use lib.ListN.{getD, take, drop};
 ghost use Rattle.numbers.specs.Modulo.{addMod};
 ghost use Rattle.numbers.specs.Lists.{Words};
 ghost use Rattle.shares.specs.Arrays.{Copied};
-ghost use Rattle.psi.specs.Psi.{psi, zOf, added};
+ghost use Rattle.rules.specs.Psi.{psi, zOf, added};
 
 // Ψ(x,u). The remainder is by a power of two, so it compiles to a mask.
 pub fn psi(x: u32, u: u32, k: u32) -> u32

@@ -12,8 +12,8 @@ ghost use Rattle.params.specs.Laws.{Laws};
 ghost use Rattle.draws.specs.Draws.{bind, run};
 ghost use Rattle.draws.specs.Plan.{drawAll};
 ghost use Rattle.shares.specs.Arrays.{Gave};
-ghost use Rattle.switching.specs.ToModulus.{toModulus};
-ghost use Rattle.sample.specs.Sampling.{maskPlan};
+ghost use Rattle.masks.specs.ToModulus.{toModulus};
+ghost use Rattle.masks.specs.Sampling.{maskPlan};
 
 // n words below 2^mu: the Boolean shares of a number that nobody holds.
 fn draw_shares(n: usize, mu: u32, cursor: Cursor, tape: &[u32]) -> Shared

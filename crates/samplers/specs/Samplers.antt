@@ -3,8 +3,8 @@ use Prim.Native.Nat.{ℕ}
 use lib.ListN.{length, replicate}
 use Rattle.params.specs.Sets.{known, paramsOf}
 use Rattle.gate.specs.Sampler.{Sampler}
-use Rattle.sample.specs.Sampling.{coefficient}
-use Rattle.polynomial.specs.Polynomial.{polynomial}
+use Rattle.masks.specs.Sampling.{coefficient}
+use Rattle.masks.specs.Polynomial.{polynomial}
 
 -- one coefficient, of set 44, 65 or 87
 unfoldable pub sampler : ℕ → Sampler

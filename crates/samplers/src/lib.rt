@@ -18,7 +18,7 @@ ghost use lib.ListN.{length, replicate};
 ghost use Rattle.params.specs.Laws.{Laws};
 ghost use Rattle.tape.specs.Tape.{start};
 ghost use Rattle.draws.specs.Draws.{run};
-ghost use Rattle.polynomial.specs.Polynomial.{polynomial};
+ghost use Rattle.masks.specs.Polynomial.{polynomial};
 ghost use Rattle.gate.specs.Told.{silentRan, ranTold, standsFor};
 ghost use Rattle.gate.specs.Sampler.{samples};
 ghost use Rattle.samplers.specs.Samplers.{sampler, polynomialSampler};

@@ -4,8 +4,8 @@ use words::power;
 ghost use mathlib.Core.Path.{_≡_};
 ghost use Prim.Native.Nat.{_^_, _≤_, _<_};
 ghost use Rattle.numbers.specs.Lists.{Words};
-ghost use Rattle.shift.specs.ToBoolean.{withBit};
-ghost use Rattle.shift.specs.Halvings.{gathered, gatheredWord};
+ghost use Rattle.halves.specs.ToBoolean.{withBit};
+ghost use Rattle.halves.specs.Halvings.{gathered, gatheredWord};
 
 // Bit b of each word, from the parities of the arithmetic shares.
 pub fn with_bit(

@@ -9,9 +9,9 @@ ghost use Prim.Native.Nat.{_*_, _^_, _≤_, _<_};
 ghost use lib.ListN.{take};
 ghost use Rattle.draws.specs.Draws.{run};
 ghost use Rattle.shares.specs.Arrays.{Held, Gave};
-ghost use Rattle.shift.specs.Shift.{shift};
-ghost use Rattle.shift.specs.ToBoolean.{toBoolean};
-ghost use Rattle.shift.specs.Halvings.{halvings, halvingsBound};
+ghost use Rattle.halves.specs.Shift.{shift};
+ghost use Rattle.halves.specs.ToBoolean.{toBoolean};
+ghost use Rattle.halves.specs.Halvings.{halvings, halvingsBound};
 
 fn halvings(
     shares: [u32; Params::MOST],

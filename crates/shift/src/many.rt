@@ -10,7 +10,7 @@ ghost use Prim.Native.Nat.{_*_, _^_, _≤_, _<_};
 ghost use lib.ListN.{take};
 ghost use Rattle.draws.specs.Draws.{run};
 ghost use Rattle.shares.specs.Arrays.{Held, Gave};
-ghost use Rattle.shift.specs.Halvings.{halvings, halvingsBound};
+ghost use Rattle.halves.specs.Halvings.{halvings, halvingsBound};
 
 pub fn of_many(
     shares: [u32; Params::MOST],

@@ -8,7 +8,7 @@ ghost use mathlib.Core.List.{[], _∷_};
 ghost use Prim.Native.Nat.{_*_, _^_, _≤_, _<_};
 ghost use Rattle.draws.specs.Draws.{run};
 ghost use Rattle.shares.specs.Arrays.{Held, Gave};
-ghost use Rattle.shift.specs.Halvings.{halvings, halvingsBound};
+ghost use Rattle.halves.specs.Halvings.{halvings, halvingsBound};
 
 pub fn of_two(x: u32, y: u32, m: u32, t: u32, gathers: bool, cursor: Cursor, tape: &[u32]) -> Shared
     requires { ⌜ (2 ≤ m) × (2 ^ t * m < 2 ^ 32) × Held 2 2 (2 ^ t * m) (x ∷ y ∷ []) ⌝ }

@@ -4,8 +4,8 @@ use Prim.Native.Nat.{ℕ, _/_, _%_, _^_}
 use lib.Dec.{leb, eqb}
 use Rattle.numbers.specs.Tests.{both}
 use Rattle.shares.specs.Sharing.{arithmetic, boolean}
-use Rattle.shift.specs.Shift.{shift}
-use Rattle.shift.specs.ToBoolean.{toBoolean}
+use Rattle.halves.specs.Shift.{shift}
+use Rattle.halves.specs.ToBoolean.{toBoolean}
 use Rattle.checks.specs.Checks.{inside}
 use Rattle.gate.specs.Gadget.{Gadget, silentGadget}
 

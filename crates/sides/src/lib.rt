@@ -17,8 +17,8 @@ ghost use Rattle.params.specs.Laws.{KindLaws};
 ghost use Rattle.draws.specs.Draws.{run};
 ghost use Rattle.shares.specs.Sharing.{negated};
 ghost use Rattle.shares.specs.Arrays.{Held, Gave};
-ghost use Rattle.widening.specs.Widening.{wide};
-ghost use Rattle.sides.specs.Sides.{side, sidesProduct};
+ghost use Rattle.sizes.specs.Widening.{wide};
+ghost use Rattle.sizes.specs.Sides.{side, sidesProduct};
 
 fn negated(shares: [u32; Params::MOST], m: u32) -> [u32; Params::MOST]
     requires { ⌜ Words 8 m shares ⌝ }

@@ -12,7 +12,7 @@ ghost use lib.ListN.{take};
 ghost use Rattle.numbers.specs.Bits.{alpha};
 ghost use Rattle.draws.specs.Draws.{run};
 ghost use Rattle.shares.specs.Arrays.{Held, Gave};
-ghost use Rattle.switching.specs.ToModulus.{toModulus};
+ghost use Rattle.masks.specs.ToModulus.{toModulus};
 
 pub fn to_modulus(
     shares: [u32; Params::MOST],

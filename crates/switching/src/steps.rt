@@ -7,7 +7,7 @@ ghost use Prim.Native.Nat.{_*_, _/_, _^_, _≤_, _<_};
 ghost use lib.ListN.{take};
 ghost use Rattle.numbers.specs.Modulo.{subMod};
 ghost use Rattle.numbers.specs.Lists.{Words, along};
-ghost use Rattle.carries.specs.Carries.{without};
+ghost use Rattle.halves.specs.Carries.{without};
 
 // floor(x / 2^mu) of each word. Of a word below 2^(mu + alpha) it is below 2^alpha, so it needs no remainder.
 pub fn quotients(shares: [u32; Params::MOST], mu: u32) -> [u32; Params::MOST]

@@ -12,7 +12,7 @@ ghost use Rattle.numbers.specs.Modulo.{q};
 ghost use Rattle.params.specs.Laws.{KindLaws};
 ghost use Rattle.draws.specs.Draws.{run};
 ghost use Rattle.shares.specs.Arrays.{Held, Gave};
-ghost use Rattle.verdict.specs.Verdict.{tested};
+ghost use Rattle.sizes.specs.Verdict.{tested};
 
 // The shares that may be opened: within the reach, their sum is zero just where the number is to be rejected. The promise is on the shares, since the
 // sum, which is all that a caller sees, would be the same without the refreshes.

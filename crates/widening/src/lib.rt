@@ -17,8 +17,8 @@ ghost use Rattle.numbers.specs.Lists.{Words};
 ghost use Rattle.params.specs.Laws.{KindLaws};
 ghost use Rattle.draws.specs.Draws.{run};
 ghost use Rattle.shares.specs.Arrays.{Held, Gave};
-ghost use Rattle.carries.specs.Carries.{without};
-ghost use Rattle.widening.specs.Widening.{wide, widen};
+ghost use Rattle.halves.specs.Carries.{without};
+ghost use Rattle.sizes.specs.Widening.{wide, widen};
 
 // The modulus 2^rho·q of the widened shares.
 pub fn wide(k: Bounds) -> u32

@@ -7,7 +7,7 @@ use Rattle.params.specs.Sets.{known, kindOf}
 use Rattle.shares.specs.Sharing.{arithmetic}
 use Rattle.checks.specs.Checks.{inside}
 use Rattle.gate.specs.Gadget.{Gadget, silentGadget}
-use Rattle.widening.specs.Widening.{widened, widen}
+use Rattle.sizes.specs.Widening.{widened, widen}
 
 -- set 44, 65 or 87, and kind 1 or 2
 unfoldable pub kindRange : (set kind : ℕ) → Bool

@@ -22,7 +22,7 @@ ghost use Rattle.shares.specs.Refresh.{refresh};
 ghost use Rattle.checks.specs.Checks.{Checked};
 ghost use Rattle.gate.specs.Told.{silentRan, ranTold, standsFor};
 ghost use Rattle.gate.specs.Gadget.{tells};
-ghost use Rattle.widening.specs.Widening.{widened, widen};
+ghost use Rattle.sizes.specs.Widening.{widened, widen};
 ghost use Rattle.widens.specs.Widen.{kindRange, widenGadget};
 
 // Both parameters of widening and of the verdict are in their ranges.

@@ -10,7 +10,7 @@ ghost use lib.ListN.{take};
 ghost use Rattle.numbers.specs.Modulo.{q};
 ghost use Rattle.draws.specs.Draws.{run};
 ghost use Rattle.shares.specs.Arrays.{Held, Gave};
-ghost use Rattle.zero.specs.ZeroTest.{scaled, zeroTest};
+ghost use Rattle.sizes.specs.ZeroTest.{scaled, zeroTest};
 
 fn scaled(shares: [u32; Params::MOST], c: u32) -> [u32; Params::MOST]
     ensures { λ r. ⌜ r ≡ scaled q c shares ⌝ }

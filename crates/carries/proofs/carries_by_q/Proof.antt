@@ -6,8 +6,8 @@ use denote.Ref.{now}
 use Rattle.numbers.specs.Modulo.{q}
 use Rattle.draws.specs.Draws.{run}
 use Rattle.shares.proofs.ArraysLaws.{given-as}
-use Rattle.carries.specs.Carries.{raisedShift, carries}
-use Rattle.carries.proofs.StepLaws.{floors-held, floors-take, scaled-small}
+use Rattle.halves.specs.Carries.{raisedShift, carries}
+use Rattle.halves.proofs.CarrySteps.{floors-held, floors-take, scaled-small}
 use Rattle.carries.proofs.carries_by_q.Statement.{statement}
 use Rattle.carries.proofs.carries_by_q.Tie as tie
 

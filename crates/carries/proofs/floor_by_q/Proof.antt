@@ -3,7 +3,7 @@ use Prim.Native.Nat.{_*_, _/_, _^_, _<_}
 use native.Mathlib.Omega.{arith}
 use native.Mathlib.Nat.{le-of-lt}
 use Rattle.numbers.specs.Modulo.{q}
-use Rattle.carries.proofs.StepLaws.{scaled-small, scaled-fits}
+use Rattle.halves.proofs.CarrySteps.{scaled-small, scaled-fits}
 use Rattle.carries.proofs.floor_by_q.Statement.{statement}
 use Rattle.carries.proofs.floor_by_q.Tie as tie
 

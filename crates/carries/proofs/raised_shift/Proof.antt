@@ -8,9 +8,9 @@ use Rattle.draws.specs.Draws.{run}
 use Rattle.shares.specs.Sharing.{arithmetic}
 use Rattle.shares.proofs.ArraysLaws.{given-as}
 use Rattle.first.specs.First.{addToFirst}
-use Rattle.shift.specs.Shift.{shift}
-use Rattle.carries.specs.Carries.{raisedShift}
-use Rattle.carries.proofs.StepLaws.{raised-held, raised-take}
+use Rattle.halves.specs.Shift.{shift}
+use Rattle.halves.specs.Carries.{raisedShift}
+use Rattle.halves.proofs.CarrySteps.{raised-held, raised-take}
 use Rattle.carries.proofs.raised_shift.Statement.{statement}
 use Rattle.carries.proofs.raised_shift.Tie as tie
 

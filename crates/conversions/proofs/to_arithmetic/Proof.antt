@@ -9,7 +9,7 @@ use Rattle.tape.specs.Tape.{start}
 use Rattle.draws.specs.Draws.{bind, run}
 use Rattle.shares.specs.Sharing.{arithmetic, boolean}
 use Rattle.shares.specs.Refresh.{refresh}
-use Rattle.convert.specs.ToArithmetic.{toArithmetic}
+use Rattle.rules.specs.ToArithmetic.{toArithmetic}
 use Rattle.checks.specs.Checks.{inside, firstFailing, checks}
 use Rattle.checks.proofs.CheckLaws.{Passed, all-passed, inside-out, checked-width}
 use Rattle.gate.proofs.GadgetLaws.{silent-refused, silent-ran, closed-on-copy, held, held-given}

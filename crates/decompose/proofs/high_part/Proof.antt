@@ -4,7 +4,7 @@ use borrow.Author.Tests.{not-false}
 use Rattle.tape.specs.Tape.{ran}
 use Rattle.shares.proofs.ArraysLaws.{held-below, gave, stopped}
 use Rattle.decompose.specs.Answers.{highStandsFor}
-use Rattle.decompose.proofs.StepLaws.{shares-ended, opens}
+use Rattle.parts.proofs.DecomposeSteps.{shares-ended, opens}
 use Rattle.decompose.proofs.high_part.Statement.{statement}
 use Rattle.decompose.proofs.high_part.Tie as tie
 

@@ -11,8 +11,8 @@ use Rattle.shares.specs.Sharing.{arithmetic}
 use Rattle.shares.specs.Refresh.{refresh}
 use Rattle.shares.specs.Arrays.{Held}
 use Rattle.shares.proofs.ArraysLaws.{held-of, held-below, given-as}
-use Rattle.carries.specs.Carries.{carries}
-use Rattle.decompose.proofs.StepLaws.{offset-words, floors-room, count-room, high-shares-is}
+use Rattle.halves.specs.Carries.{carries}
+use Rattle.parts.proofs.DecomposeSteps.{offset-words, floors-room, count-room, high-shares-is}
 use Rattle.decompose.proofs.high_shares.Statement.{statement}
 use Rattle.decompose.proofs.high_shares.Tie as tie
 

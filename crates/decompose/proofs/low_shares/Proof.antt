@@ -1,6 +1,6 @@
 use native.Mathlib.Omega.{arith}
 use Rattle.params.proofs.RoomLaws.{half-below, multiple-below}
-use Rattle.decompose.specs.Decompose.{lowShares}
+use Rattle.parts.specs.Decompose.{lowShares}
 use Rattle.decompose.proofs.low_shares.Statement.{statement}
 use Rattle.decompose.proofs.low_shares.Tie as tie
 

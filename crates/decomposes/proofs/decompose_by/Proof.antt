@@ -15,9 +15,9 @@ use Rattle.shares.proofs.ArraysLaws.{held-of}
 use Rattle.gate.specs.Gadget.{closed}
 use Rattle.gate.specs.Told.{ranTold, openedRan}
 use Rattle.gate.proofs.GadgetLaws.{held}
-use Rattle.decompose.specs.Decompose.{decompose, highPart, lowShares}
+use Rattle.parts.specs.Decompose.{decompose, highPart, lowShares}
 use Rattle.decompose.specs.Answers.{highStandsFor}
-use Rattle.decompose.proofs.StepLaws.{high-below, low-take, low-words}
+use Rattle.parts.proofs.DecomposeSteps.{high-below, low-take, low-words}
 use Rattle.decomposes.proofs.TellLaws.{told-refused, told-parts, high-ended, high-ran}
 use Rattle.decomposes.proofs.decompose_by.Statement.{statement}
 use Rattle.decomposes.proofs.decompose_by.Tie as tie

@@ -16,9 +16,9 @@ use Rattle.draws.proofs.RunLaws.{run-done}
 use Rattle.shares.specs.Sharing.{boolean}
 use Rattle.shares.specs.Refresh.{refresh}
 use Rattle.shares.proofs.ArraysLaws.{gave, stopped, whole, cut-off}
-use Rattle.psi.specs.Psi.{zOf}
-use Rattle.psi.proofs.ListLaws.{z-words}
-use Rattle.few.proofs.RuleLaws.{refresh-ended, u-ended, z-ended, rule-gave, same-shares, Left, draw-ended, drew, four, refresh-four, fresh-below, four-z, four-added, four-below, three-held}
+use Rattle.rules.specs.Psi.{zOf}
+use Rattle.rules.proofs.ListLaws.{z-words}
+use Rattle.rules.proofs.RuleLaws.{refresh-ended, u-ended, z-ended, rule-gave, same-shares, Left, draw-ended, drew, four, refresh-four, fresh-below, four-z, four-added, four-below, three-held}
 use Rattle.few.proofs.of_four.Statement.{statement}
 use Rattle.few.proofs.of_four.Tie as tie
 

@@ -6,7 +6,7 @@ use Rattle.numbers.specs.Modulo.{xor}
 use Rattle.tape.specs.Tape.{drawAt}
 use Rattle.tape.specs.Answers.{drawStandsFor}
 use Rattle.shares.proofs.ArraysLaws.{cut-off}
-use Rattle.few.proofs.RuleLaws.{draw-ended, drew, refresh-three, refresh-ended, three-gave}
+use Rattle.rules.proofs.RuleLaws.{draw-ended, drew, refresh-three, refresh-ended, three-gave}
 use Rattle.few.proofs.of_three.Statement.{statement}
 use Rattle.few.proofs.of_three.Tie as tie
 

@@ -10,7 +10,7 @@ use Rattle.shares.specs.Sharing.{arithmetic}
 use Rattle.shares.specs.Refresh.{refresh}
 use Rattle.shares.specs.Arrays.{Gave}
 use Rattle.shares.proofs.ArraysLaws.{held-of, gave, stopped, given-as, followed}
-use Rattle.convert.specs.ToArithmetic.{toArithmetic}
+use Rattle.rules.specs.ToArithmetic.{toArithmetic}
 use Rattle.held.proofs.HeldLaws.{steps-none, steps-gave}
 use Rattle.held.proofs.to_arithmetic_gives.Statement.{statement}
 use Rattle.held.proofs.to_arithmetic_gives.Tie as tie

@@ -13,7 +13,7 @@ use Rattle.checks.specs.Checks.{firstFailing, checks}
 use Rattle.checks.proofs.CheckLaws.{both-left, Passed, all-passed, checked}
 use Rattle.checks.proofs.AdmitLaws.{not-admitted, Good, good}
 use Rattle.gate.proofs.GadgetLaws.{judge-checks, judge-refused, judge-ran}
-use Rattle.verdict.specs.Verdict.{verdict}
+use Rattle.sizes.specs.Verdict.{verdict}
 use Rattle.widens.specs.Widen.{kindRange}
 use Rattle.judges.specs.Verdict.{verdictGadget}
 use Rattle.judges.proofs.verdict.Statement.{statement}

@@ -10,7 +10,7 @@ use Rattle.draws.specs.Draws.{run}
 use Rattle.shares.specs.Arrays.{Gave}
 use Rattle.shares.proofs.ArraysLaws.{given-as, gave, stopped}
 use Rattle.gate.proofs.GadgetLaws.{held, held-given}
-use Rattle.verdict.specs.Verdict.{tested}
+use Rattle.sizes.specs.Verdict.{tested}
 use Rattle.judges.proofs.JudgeLaws.{judged-ended, judged-ran}
 use Rattle.judges.proofs.verdict_by.Statement.{statement}
 use Rattle.judges.proofs.verdict_by.Tie as tie

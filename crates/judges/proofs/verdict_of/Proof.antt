@@ -1,5 +1,5 @@
 use borrow.Author.Tests.{eq-eqb, ne-eqb}
-use Rattle.verdict.specs.Verdict.{verdictOf}
+use Rattle.sizes.specs.Verdict.{verdictOf}
 use Rattle.judges.proofs.verdict_of.Statement.{statement}
 use Rattle.judges.proofs.verdict_of.Tie as tie
 

@@ -5,9 +5,10 @@ use native.Mathlib.Omega.{arith}
 use lib.ListN.{length}
 use Rattle.tape.specs.Tape.{start}
 use Rattle.draws.specs.Draws.{run}
-use Rattle.polynomial.specs.Polynomial.{polynomial}
+use Rattle.masks.specs.Polynomial.{polynomial}
 use Rattle.polynomial.specs.Answers.{writtenStandsFor}
-use Rattle.polynomial.proofs.RowLaws.{lent-length, Filling, filling-start, filling-all, filling-within, filling-ended, filling-more}
+use Rattle.masks.proofs.RowLaws.{lent-length, Filling, filling-start, filling-all, filling-within, filling-ended, filling-more}
+use Rattle.polynomial.proofs.WrittenLaws.{wrote-none, wrote}
 use Rattle.polynomial.proofs.polynomial.Statement.{statement}
 use Rattle.polynomial.proofs.polynomial.Tie as tie
 
@@ -68,7 +69,7 @@ unfolding writtenStandsFor
 returns c =
     let w = c .before .before .before .before in
     let i = w .before .before in
-    filling-ended (i .before .loop .inv) (few i) _ _ (w .write-row .ensures) (c .enum-told .given .1)
+    filling-ended (i .before .loop .inv) (few i) (wrote-none _ _ (w .write-row .ensures) (c .enum-told .given .1))
 
 add-c : tie.Need-add-c Inv-loop μ-loop
 add-c c = search needs
@@ -82,7 +83,7 @@ loop-again c =
     let o = g .before .before .before in
     let w = o .before in
     let i = w .before .before in
-    filling-more (i .before .loop .inv) (few i) _ _ (w .write-row .ensures) (g .next .given .1) (o .out .given .0 ∙ lent-length _ _ _ (within i))
+    filling-more (i .before .loop .inv) (few i) (wrote _ _ (w .write-row .ensures) (g .next .given .1)) (o .out .given .0 ∙ lent-length _ _ _ (within i))
 
 same-length-2 : tie.Need-same-length-2 Inv-loop μ-loop
 same-length-2 c = search needs

@@ -11,8 +11,8 @@ use Rattle.tape.specs.Tape.{ran}
 use Rattle.draws.specs.Draws.{run}
 use Rattle.shares.specs.Arrays.{Gave}
 use Rattle.shares.proofs.ArraysLaws.{gave, stopped}
-use Rattle.sample.specs.Sampling.{coefficient}
-use Rattle.sample.proofs.StepLaws.{drawn-held, closed}
+use Rattle.masks.specs.Sampling.{coefficient}
+use Rattle.masks.proofs.SampleSteps.{drawn-held, closed}
 use Rattle.polynomial.specs.Answers.{writtenStandsFor}
 use Rattle.polynomial.proofs.write_row.Statement.{statement}
 use Rattle.polynomial.proofs.write_row.Tie as tie

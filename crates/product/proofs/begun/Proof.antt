@@ -3,7 +3,7 @@ use Prim.Native.Nat.{_-_, _*_, _%_}
 use lib.ListN.{getD}
 use Rattle.numbers.specs.Modulo.{q}
 use Rattle.numbers.proofs.AlongLaws.{Along, along-start, along-more, along-all}
-use Rattle.product.specs.Product.{begun}
+use Rattle.sizes.specs.Product.{begun}
 use Rattle.product.proofs.begun.Statement.{statement}
 use Rattle.product.proofs.begun.Tie as tie
 

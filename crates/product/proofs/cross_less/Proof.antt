@@ -2,7 +2,7 @@ use borrow.Author.Needs.{needs}
 use mathlib.Core.Path.{_∙_}
 use Prim.Native.Nat.{_-_}
 use native.Mathlib.Omega.{arith}
-use Rattle.product.proofs.StepLaws.{times-most, less-is}
+use Rattle.sizes.proofs.ProductSteps.{times-most, less-is}
 use Rattle.product.proofs.cross_less.Statement.{statement}
 use Rattle.product.proofs.cross_less.Tie as tie
 

@@ -6,7 +6,7 @@ use lib.Seq.{getD-set-other}
 use Rattle.numbers.specs.Modulo.{q, addMod}
 use Rattle.numbers.proofs.WordsLaws.{words-at}
 use Rattle.numbers.proofs.GroupLaws.{sub-small}
-use Rattle.product.proofs.StepLaws.{crossed-stored}
+use Rattle.sizes.proofs.ProductSteps.{crossed-stored}
 use Rattle.product.proofs.crossed.Statement.{statement}
 use Rattle.product.proofs.crossed.Tie as tie
 

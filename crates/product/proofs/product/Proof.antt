@@ -7,8 +7,8 @@ use Rattle.numbers.specs.Modulo.{q}
 use Rattle.draws.specs.Draws.{run}
 use Rattle.shares.proofs.ArraysLaws.{gave, stopped, whole, cut-off}
 use Rattle.shares.proofs.LoopLaws.{Looping, looping-done, looping-ended, looping-more}
-use Rattle.product.specs.Product.{row, product}
-use Rattle.product.proofs.StepLaws.{product-start}
+use Rattle.sizes.specs.Product.{row, product}
+use Rattle.sizes.proofs.ProductSteps.{product-start}
 use Rattle.product.proofs.product.Statement.{statement}
 use Rattle.product.proofs.product.Tie as tie
 

@@ -7,8 +7,8 @@ use Rattle.numbers.specs.Modulo.{q}
 use Rattle.draws.specs.Draws.{run}
 use Rattle.shares.proofs.ArraysLaws.{whole, cut-off}
 use Rattle.shares.proofs.LoopLaws.{looping-done}
-use Rattle.product.specs.Product.{row}
-use Rattle.product.proofs.StepLaws.{Crossing, crossing-start, crossing-ended, crossing-draw, crossing-more}
+use Rattle.sizes.specs.Product.{row}
+use Rattle.sizes.proofs.ProductSteps.{Crossing, crossing-start, crossing-ended, crossing-draw, crossing-more}
 use Rattle.product.proofs.row.Statement.{statement}
 use Rattle.product.proofs.row.Tie as tie
 

@@ -1,7 +1,7 @@
 use borrow.Author.Needs.{needs}
 use Prim.Native.Nat.{_-_, _^_}
 use lib.Pow.{pow-pos}
-use Rattle.psi.proofs.ListLaws.{Adding, adding-start, adding-more, adding-all}
+use Rattle.rules.proofs.ListLaws.{Adding, adding-start, adding-more, adding-all}
 use Rattle.psi.proofs.added.Statement.{statement}
 use Rattle.psi.proofs.added.Tie as tie
 

@@ -3,8 +3,8 @@ use mathlib.Core.Path.{ap₂}
 use Prim.Native.Nat.{_<_, _%_, _^_}
 use lib.Pow.{pow-pos}
 use Rattle.numbers.specs.Modulo.{xor}
-use Rattle.psi.specs.Psi.{psi}
-use Rattle.psi.proofs.ListLaws.{wraps}
+use Rattle.rules.specs.Psi.{psi}
+use Rattle.rules.proofs.ListLaws.{wraps}
 use Rattle.psi.proofs.psi.Statement.{statement}
 use Rattle.psi.proofs.psi.Tie as tie
 

@@ -3,8 +3,8 @@ use mathlib.Core.Path.{_∙_}
 use Prim.Native.Nat.{_-_}
 use Rattle.numbers.proofs.AlongLaws.{Along, along-start, along-more, along-all}
 use Rattle.numbers.specs.Modulo.{xor}
-use Rattle.psi.specs.Psi.{psi, psis}
-use Rattle.psi.proofs.ListLaws.{z-odd, z-even}
+use Rattle.rules.specs.Psi.{psi, psis}
+use Rattle.rules.proofs.ListLaws.{z-odd, z-even}
 use Rattle.psi.proofs.z_of.Statement.{statement}
 use Rattle.psi.proofs.z_of.Tie as tie
 

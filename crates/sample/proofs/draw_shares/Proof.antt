@@ -9,7 +9,7 @@ use Rattle.tape.specs.Answers.{drawStandsFor}
 use Rattle.draws.specs.Draws.{run}
 use Rattle.draws.specs.Plan.{drawAll}
 use Rattle.shares.proofs.ArraysLaws.{whole, cut-off}
-use Rattle.sample.proofs.DrawingLaws.{Drawing, drawing-start, drawing-all, drawing-ended, drawing-more}
+use Rattle.masks.proofs.DrawingLaws.{Drawing, drawing-start, drawing-all, drawing-ended, drawing-more}
 use Rattle.sample.proofs.draw_shares.Statement.{statement}
 use Rattle.sample.proofs.draw_shares.Tie as tie
 

@@ -18,8 +18,8 @@ use Rattle.checks.specs.Checks.{firstFailing, checksOf}
 use Rattle.checks.proofs.CheckLaws.{AllPassed, all-checked, range-checked}
 use Rattle.checks.proofs.AdmitLaws.{not-admitted, Good, good}
 use Rattle.gate.proofs.GadgetLaws.{sampler-refused, sampler-ran}
-use Rattle.sample.specs.Sampling.{coefficient}
-use Rattle.sample.proofs.StepLaws.{drawn-held, closed}
+use Rattle.masks.specs.Sampling.{coefficient}
+use Rattle.masks.proofs.SampleSteps.{drawn-held, closed}
 use Rattle.samplers.specs.Samplers.{sampler}
 use Rattle.samplers.proofs.sample.Statement.{statement}
 use Rattle.samplers.proofs.sample.Tie as tie

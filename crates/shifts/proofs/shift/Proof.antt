@@ -5,7 +5,7 @@ use native.Mathlib.Omega.{arith}
 use lib.ListN.{length}
 use denote.Ref.{now}
 use Rattle.shares.specs.Sharing.{arithmetic}
-use Rattle.shift.specs.Shift.{shift}
+use Rattle.halves.specs.Shift.{shift}
 use Rattle.checks.specs.Checks.{firstFailing, checks}
 use Rattle.checks.proofs.CheckLaws.{Passed, all-passed, checked}
 use Rattle.gate.proofs.GadgetLaws.{silent-refused, silent-ran, closed-on-copy, held, held-given}

@@ -6,7 +6,7 @@ use lib.ListN.{length}
 use lib.Pow.{pow-mono}
 use denote.Ref.{now}
 use Rattle.shares.specs.Sharing.{arithmetic, boolean}
-use Rattle.shift.specs.ToBoolean.{toBoolean}
+use Rattle.halves.specs.ToBoolean.{toBoolean}
 use Rattle.checks.specs.Checks.{inside, firstFailing, checks}
 use Rattle.checks.proofs.CheckLaws.{Passed, all-passed, inside-out, checked-width}
 use Rattle.gate.proofs.GadgetLaws.{silent-refused, silent-ran, closed-on-copy, held, held-given}

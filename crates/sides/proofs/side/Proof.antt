@@ -11,10 +11,10 @@ use Rattle.shares.specs.Sharing.{arithmetic}
 use Rattle.shares.proofs.ArraysLaws.{given-as}
 use Rattle.first.specs.First.{takeFromFirst}
 use Rattle.first.proofs.FirstLaws.{taken-take}
-use Rattle.shift.specs.Shift.{shift}
-use Rattle.widening.specs.Widening.{widened}
-use Rattle.sides.specs.Sides.{side}
-use Rattle.sides.proofs.StepLaws.{bound-wide, side-held}
+use Rattle.halves.specs.Shift.{shift}
+use Rattle.sizes.specs.Widening.{widened}
+use Rattle.sizes.specs.Sides.{side}
+use Rattle.sizes.proofs.SidesSteps.{bound-wide, side-held}
 use Rattle.sides.proofs.side.Statement.{statement}
 use Rattle.sides.proofs.side.Tie as tie
 

@@ -12,9 +12,9 @@ use Rattle.shares.specs.Arrays.{Held, Gave}
 use Rattle.shares.specs.Sharing.{negated}
 use Rattle.shares.proofs.ArraysLaws.{held-of, held-below, given-as, gave, stopped, cut-off}
 use Rattle.shares.proofs.NegatedLaws.{negated-take, negated-words}
-use Rattle.widening.specs.Widening.{wide}
-use Rattle.sides.specs.Sides.{side}
-use Rattle.sides.proofs.StepLaws.{left-ended, right-ended, fresh-ended, to-product}
+use Rattle.sizes.specs.Widening.{wide}
+use Rattle.sizes.specs.Sides.{side}
+use Rattle.sizes.proofs.SidesSteps.{left-ended, right-ended, fresh-ended, to-product}
 use Rattle.sides.proofs.sides_product.Statement.{statement}
 use Rattle.sides.proofs.sides_product.Tie as tie
 

@@ -3,8 +3,8 @@ use Prim.Native.Nat.{_-_}
 use native.Mathlib.Omega.{arith}
 use borrow.Author.Tests.{not-false}
 use Rattle.shares.proofs.ArraysLaws.{held-below, given-as, gave, stopped, cut-off}
-use Rattle.widening.proofs.StepLaws.{wide-two}
-use Rattle.verdict.proofs.StepLaws.{widen-stops, sides-stop, to-zero-test}
+use Rattle.sizes.proofs.WideningSteps.{wide-two}
+use Rattle.sizes.proofs.VerdictSteps.{widen-stops, sides-stop, to-zero-test}
 use Rattle.verdict.proofs.tested_shares.Statement.{statement}
 use Rattle.verdict.proofs.tested_shares.Tie as tie
 

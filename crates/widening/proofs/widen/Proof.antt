@@ -14,9 +14,9 @@ use Rattle.shares.specs.Arrays.{Held, Gave}
 use Rattle.shares.specs.Sharing.{arithmetic}
 use Rattle.shares.proofs.ArraysLaws.{held-of, gave, stopped, whole, cut-off}
 use Rattle.first.specs.First.{addToFirst, takeFromFirst}
-use Rattle.carries.specs.Carries.{carries, without}
-use Rattle.widening.specs.Widening.{wide, widened}
-use Rattle.widening.proofs.StepLaws.{offset-words, reach-wide, widened-words, floors-room, count-room, widen-ended, widen-ran}
+use Rattle.halves.specs.Carries.{carries, without}
+use Rattle.sizes.specs.Widening.{wide, widened}
+use Rattle.sizes.proofs.WideningSteps.{offset-words, reach-wide, widened-words, floors-room, count-room, widen-ended, widen-ran}
 use Rattle.widening.proofs.widen.Statement.{statement}
 use Rattle.widening.proofs.widen.Tie as tie
 

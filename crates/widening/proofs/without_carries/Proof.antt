@@ -3,8 +3,8 @@ use Prim.Native.Nat.{_-_, _^_, _<_}
 use native.Mathlib.Omega.{arith}
 use Rattle.numbers.specs.Modulo.{q}
 use Rattle.numbers.proofs.WordsLaws.{words-at, words-same}
-use Rattle.carries.proofs.StepLaws.{Taking, taking-start, taking-more, taking-all}
-use Rattle.widening.proofs.StepLaws.{multiple-below, share-below}
+use Rattle.halves.proofs.CarrySteps.{Taking, taking-start, taking-more, taking-all}
+use Rattle.sizes.proofs.WideningSteps.{multiple-below, share-below}
 use Rattle.widening.proofs.without_carries.Statement.{statement}
 use Rattle.widening.proofs.without_carries.Tie as tie
 

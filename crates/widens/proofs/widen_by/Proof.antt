@@ -8,8 +8,8 @@ use Rattle.shares.specs.Sharing.{arithmetic}
 use Rattle.shares.specs.Refresh.{refresh}
 use Rattle.gate.specs.Told.{silentRan, ranTold}
 use Rattle.gate.proofs.GadgetLaws.{closed-on-copy, held, held-given}
-use Rattle.widening.specs.Widening.{widen}
-use Rattle.widening.proofs.StepLaws.{wide-two}
+use Rattle.sizes.specs.Widening.{widen}
+use Rattle.sizes.proofs.WideningSteps.{wide-two}
 use Rattle.widens.proofs.widen_by.Statement.{statement}
 use Rattle.widens.proofs.widen_by.Tie as tie
 

@@ -2,7 +2,7 @@ use borrow.Author.Needs.{needs}
 use Prim.Native.Nat.{_-_, _*_, _%_}
 use Rattle.numbers.specs.Modulo.{q}
 use Rattle.numbers.proofs.AlongLaws.{Along, along-start, along-more, along-all}
-use Rattle.zero.specs.ZeroTest.{scaled}
+use Rattle.sizes.specs.ZeroTest.{scaled}
 use Rattle.zero.proofs.scaled.Statement.{statement}
 use Rattle.zero.proofs.scaled.Tie as tie
 

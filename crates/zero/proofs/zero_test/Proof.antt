@@ -8,8 +8,8 @@ use Rattle.numbers.specs.Modulo.{q}
 use Rattle.draws.specs.Draws.{run}
 use Rattle.shares.proofs.ArraysLaws.{gave, stopped, whole, cut-off}
 use Rattle.shares.proofs.LoopLaws.{Looping, looping-done}
-use Rattle.zero.specs.ZeroTest.{scaleTurn, zeroTest}
-use Rattle.zero.proofs.StepLaws.{zero-start, zero-ended, scalar-below, zero-held, zero-stopped, zero-more}
+use Rattle.sizes.specs.ZeroTest.{scaleTurn, zeroTest}
+use Rattle.sizes.proofs.ZeroSteps.{zero-start, zero-ended, scalar-below, zero-held, zero-stopped, zero-more}
 use Rattle.zero.proofs.zero_test.Statement.{statement}
 use Rattle.zero.proofs.zero_test.Tie as tie
 

@@ -13,11 +13,11 @@ use Rattle.draws.specs.Draws.{run}
 use Rattle.shares.specs.Sharing.{boolean}
 use Rattle.shares.specs.Refresh.{refresh}
 use Rattle.shares.proofs.ArraysLaws.{gave, stopped, whole, cut-off}
-use Rattle.psi.specs.Psi.{zOf}
-use Rattle.psi.proofs.ListLaws.{z-words}
-use Rattle.few.specs.Rule as steps
-use Rattle.few.proofs.RuleLaws.{refresh-ended, u-ended, z-ended, rule-gave, same-shares}
-use Rattle.convert.proofs.NineLaws.{three-asked, rule-three, rule-four, held-shorter, u-words, u-is, z-is, results-added}
+use Rattle.rules.specs.Psi.{zOf}
+use Rattle.rules.proofs.ListLaws.{z-words}
+use Rattle.rules.specs.Rule as steps
+use Rattle.rules.proofs.RuleLaws.{refresh-ended, u-ended, z-ended, rule-gave, same-shares}
+use Rattle.rules.proofs.NineLaws.{three-asked, rule-three, rule-four, held-shorter, u-words, u-is, z-is, results-added}
 use borrow.Fn.Kinds.{In}
 use borrow.Fn.PlainCycle.{Measures, is, falls, and}
 use Rattle.convert.proofs.rule.+rule.{statement}

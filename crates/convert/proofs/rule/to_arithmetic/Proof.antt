@@ -1,6 +1,6 @@
 use borrow.Author.Needs.{needs}
 use native.Mathlib.Omega.{arith}
-use Rattle.convert.proofs.NineLaws.{zero-held, zero-gave}
+use Rattle.rules.proofs.NineLaws.{zero-held, zero-gave}
 use Rattle.convert.proofs.rule.to_arithmetic.Statement.{statement}
 use Rattle.convert.proofs.rule.to_arithmetic.Tie as tie
 

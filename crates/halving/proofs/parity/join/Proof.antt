@@ -2,7 +2,7 @@ use borrow.Author.Needs.{needs}
 use Prim.Native.Nat.{_-_}
 use native.Mathlib.Omega.{arith}
 use Rattle.numbers.proofs.WordsLaws.{words-at, words-same}
-use Rattle.halving.proofs.ParityLaws.{Signing, signing-start, signing-more, signing-all}
+use Rattle.halves.proofs.ParityLaws.{Signing, signing-start, signing-more, signing-all}
 use Rattle.halving.proofs.parity.join.Statement.{statement}
 use Rattle.halving.proofs.parity.join.Tie as tie
 

@@ -1,7 +1,7 @@
 use borrow.Author.Needs.{needs}
 use native.Mathlib.Omega.{arith}
 use borrow.Author.Tests.{eq-eqb, ne-eqb}
-use Rattle.halving.proofs.ParityLaws.{signed-below}
+use Rattle.halves.proofs.ParityLaws.{signed-below}
 use Rattle.halving.proofs.parity.joined.Statement.{statement}
 use Rattle.halving.proofs.parity.joined.Tie as tie
 

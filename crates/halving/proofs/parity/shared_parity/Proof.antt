@@ -7,8 +7,8 @@ use borrow.Author.Tests.{not-false}
 use Rattle.draws.specs.Draws.{run}
 use Rattle.shares.proofs.ArraysLaws.{gave, stopped, whole, cut-off}
 use Rattle.shares.proofs.LoopLaws.{looping-done}
-use Rattle.halving.specs.Halving.{sharedParity}
-use Rattle.halving.proofs.ParityLaws.{Joining, joining-start, joining-ended, joining-more}
+use Rattle.halves.specs.Halving.{sharedParity}
+use Rattle.halves.proofs.ParityLaws.{Joining, joining-start, joining-ended, joining-more}
 use Rattle.halving.proofs.parity.shared_parity.Statement.{statement}
 use Rattle.halving.proofs.parity.shared_parity.Tie as tie
 

@@ -2,7 +2,7 @@ use borrow.Author.Needs.{needs}
 use mathlib.Core.Path.{_∙_}
 use Prim.Native.Nat.{_+_, _-_, _*_, _^_, _<_}
 use native.Mathlib.Omega.{arith}
-use Rattle.halving.proofs.ParityLaws.{factor-fits, factor-picks}
+use Rattle.halves.proofs.ParityLaws.{factor-fits, factor-picks}
 use Rattle.halving.proofs.parity.signed.Statement.{statement}
 use Rattle.halving.proofs.parity.signed.Tie as tie
 

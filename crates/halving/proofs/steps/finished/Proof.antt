@@ -5,9 +5,9 @@ use native.Mathlib.Omega.{arith}
 use lib.ListN.{getD, take}
 use Rattle.numbers.proofs.GroupLaws.{sub-small}
 use Rattle.numbers.proofs.WordsLaws.{words-take, words-same}
-use Rattle.halving.specs.Halving.{less}
-use Rattle.halving.proofs.HalvingLaws.{less-words}
-use Rattle.halving.proofs.FinishLaws.{Finishing, less-at, finishing-start, finishing-more, finishing-all}
+use Rattle.halves.specs.Halving.{less}
+use Rattle.halves.proofs.HalvingLaws.{less-words}
+use Rattle.halves.proofs.FinishLaws.{Finishing, less-at, finishing-start, finishing-more, finishing-all}
 use Rattle.halving.proofs.steps.finished.Statement.{statement}
 use Rattle.halving.proofs.steps.finished.Tie as tie
 

@@ -3,7 +3,7 @@ use mathlib.Core.Path.{refl}
 use borrow.Author.Tests.{not-false}
 use denote.Ref.{now}
 use Rattle.shares.proofs.ArraysLaws.{gave, stopped, whole, cut-off}
-use Rattle.halving.proofs.HalvingLaws.{halving-ran, halving-ended}
+use Rattle.halves.proofs.HalvingLaws.{halving-ran, halving-ended}
 use Rattle.halving.proofs.steps.halve.Statement.{statement}
 use Rattle.halving.proofs.steps.halve.Tie as tie
 

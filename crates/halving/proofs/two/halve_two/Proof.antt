@@ -6,9 +6,9 @@ use Rattle.numbers.specs.Modulo.{addMod, subMod}
 use Rattle.numbers.proofs.GroupLaws.{sums}
 use Rattle.draws.proofs.DrawnLaws.{got-below}
 use Rattle.shares.proofs.ArraysLaws.{cut-off}
-use Rattle.halving.specs.AtOnce.{joined}
-use Rattle.halving.proofs.ParityLaws.{joined-below}
-use Rattle.halving.proofs.TwoLaws.{two-ended, two-gave}
+use Rattle.halves.specs.AtOnce.{joined}
+use Rattle.halves.proofs.ParityLaws.{joined-below}
+use Rattle.halves.proofs.TwoLaws.{two-ended, two-gave}
 use Rattle.halving.proofs.two.halve_two.Statement.{statement}
 use Rattle.halving.proofs.two.halve_two.Tie as tie
 

@@ -1,7 +1,7 @@
 use borrow.Author.Needs.{needs}
 use Prim.Native.Nat.{_+_, _*_, _%_, _^_, _<_}
 use native.Mathlib.Omega.{arith}
-use Rattle.shift.proofs.BitLaws.{bit-fits}
+use Rattle.halves.proofs.BitLaws.{bit-fits}
 use Rattle.shift.proofs.bits.gathered_word.Statement.{statement}
 use Rattle.shift.proofs.bits.gathered_word.Tie as tie
 

@@ -3,10 +3,10 @@ use mathlib.Core.Path.{refl}
 use native.Mathlib.Omega.{arith}
 use Prim.Native.Nat.{_+_, _-_, _*_, _%_, _^_, _<_}
 use lib.ListN.{getD}
-use Rattle.shift.specs.ToBoolean.{withBit}
-use Rattle.halving.specs.Halving.{parity}
+use Rattle.halves.specs.ToBoolean.{withBit}
+use Rattle.halves.specs.Halving.{parity}
 use Rattle.numbers.proofs.AlongLaws.{Along, along-start, along-read, along-more, along-all}
-use Rattle.shift.proofs.BitLaws.{bit-fits}
+use Rattle.halves.proofs.BitLaws.{bit-fits}
 use Rattle.shift.proofs.bits.with_bit.Statement.{statement}
 use Rattle.shift.proofs.bits.with_bit.Tie as tie
 

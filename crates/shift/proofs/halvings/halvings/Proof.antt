@@ -1,5 +1,5 @@
 use borrow.Author.Needs.{needs}
-use Rattle.shift.proofs.HalvingsLaws.{held-two, given-two}
+use Rattle.halves.proofs.HalvingsLaws.{held-two, given-two}
 use Rattle.shift.proofs.halvings.halvings.Statement.{statement}
 use Rattle.shift.proofs.halvings.halvings.Tie as tie
 

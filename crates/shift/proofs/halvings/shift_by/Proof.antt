@@ -1,5 +1,5 @@
 use borrow.Author.Needs.{needs}
-use Rattle.shift.proofs.HalvingsLaws.{given-shift}
+use Rattle.halves.proofs.HalvingsLaws.{given-shift}
 use Rattle.shift.proofs.halvings.shift_by.Statement.{statement}
 use Rattle.shift.proofs.halvings.shift_by.Tie as tie
 

@@ -4,7 +4,7 @@ use Prim.Native.Nat.{ℕ, _^_, _≤_}
 use native.Mathlib.Omega.{arith}
 use lib.Pow.{pow-mono}
 use Rattle.shares.specs.Arrays.{Held}
-use Rattle.shift.proofs.HalvingsLaws.{given-bits, power-last}
+use Rattle.halves.proofs.HalvingsLaws.{given-bits, power-last}
 use Rattle.shift.proofs.halvings.to_boolean.Statement.{statement}
 use Rattle.shift.proofs.halvings.to_boolean.Tie as tie
 

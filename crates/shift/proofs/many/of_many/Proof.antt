@@ -6,8 +6,8 @@ use lib.ListN.{take}
 use borrow.Author.Tests.{not-false}
 use Rattle.draws.specs.Draws.{run}
 use Rattle.shares.proofs.ArraysLaws.{gave, stopped, whole, cut-off}
-use Rattle.shift.specs.Halvings.{halvings}
-use Rattle.shift.proofs.HalvingsLaws.{Halved, halved-fits, halved-start, halved-bits, halved-words, halved-gathered-words, halved-shares, halved-gathered, halved-held, halved-ended, halved-more}
+use Rattle.halves.specs.Halvings.{halvings}
+use Rattle.halves.proofs.HalvingsLaws.{Halved, halved-fits, halved-start, halved-bits, halved-words, halved-gathered-words, halved-shares, halved-gathered, halved-held, halved-ended, halved-more}
 use Rattle.shift.proofs.many.of_many.Statement.{statement}
 use Rattle.shift.proofs.many.of_many.Tie as tie
 

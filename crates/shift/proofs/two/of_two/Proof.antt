@@ -10,8 +10,8 @@ use Rattle.numbers.proofs.WordsLaws.{words-head, words-tail}
 use Rattle.tape.specs.Tape.{ran}
 use Rattle.draws.specs.Draws.{run}
 use Rattle.shares.proofs.ArraysLaws.{gave, stopped, whole, cut-off}
-use Rattle.shift.specs.Halvings.{halvings}
-use Rattle.shift.proofs.HalvingsLaws.{Halved, gathered-two, take-two, words-two, words-eight, halved-fits, halved-start, halved-bits, halved-words, halved-gathered-words, halved-shares, halved-gathered, halved-held, halved-ended, halved-more}
+use Rattle.halves.specs.Halvings.{halvings}
+use Rattle.halves.proofs.HalvingsLaws.{Halved, gathered-two, take-two, words-two, words-eight, halved-fits, halved-start, halved-bits, halved-words, halved-gathered-words, halved-shares, halved-gathered, halved-held, halved-ended, halved-more}
 use Rattle.shift.proofs.two.of_two.Statement.{statement}
 use Rattle.shift.proofs.two.of_two.Tie as tie
 

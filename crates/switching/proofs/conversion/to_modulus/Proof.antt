@@ -13,10 +13,10 @@ use Rattle.numbers.proofs.WordsLaws.{words-up}
 use Rattle.draws.specs.Draws.{run}
 use Rattle.shares.specs.Arrays.{Held, Gave}
 use Rattle.shares.proofs.ArraysLaws.{held-below, given-as, gave, stopped, whole, cut-off}
-use Rattle.carries.specs.Carries.{raisedShift, carries}
-use Rattle.carries.proofs.StepLaws.{floors-held, floors-take}
-use Rattle.switching.proofs.StepLaws.{quotient-small, quotient-is}
-use Rattle.switching.proofs.SwitchLaws.{convert-ended, carries-ended, switched}
+use Rattle.halves.specs.Carries.{raisedShift, carries}
+use Rattle.halves.proofs.CarrySteps.{floors-held, floors-take}
+use Rattle.masks.proofs.SwitchSteps.{quotient-small, quotient-is}
+use Rattle.masks.proofs.SwitchLaws.{convert-ended, carries-ended, switched}
 use Rattle.switching.proofs.conversion.to_modulus.Statement.{statement}
 use Rattle.switching.proofs.conversion.to_modulus.Tie as tie
 

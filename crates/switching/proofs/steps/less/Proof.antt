@@ -2,7 +2,7 @@ use borrow.Author.Needs.{needs}
 use mathlib.Core.Path.{ap, _∙_}
 use Prim.Native.Nat.{_+_, _-_, _*_, _%_, _<_, _^_}
 use native.Mathlib.Omega.{arith}
-use Rattle.switching.proofs.StepLaws.{less-fits, less-is}
+use Rattle.masks.proofs.SwitchSteps.{less-fits, less-is}
 use Rattle.switching.proofs.steps.less.Statement.{statement}
 use Rattle.switching.proofs.steps.less.Tie as tie
 

@@ -2,7 +2,7 @@ use borrow.Author.Needs.{needs}
 use Prim.Native.Nat.{_-_, _^_}
 use native.Mathlib.Omega.{arith}
 use Rattle.numbers.proofs.WordsLaws.{words-at, words-same}
-use Rattle.carries.proofs.StepLaws.{Taking, taking-start, taking-more, taking-all}
+use Rattle.halves.proofs.CarrySteps.{Taking, taking-start, taking-more, taking-all}
 use Rattle.switching.proofs.steps.without.Statement.{statement}
 use Rattle.switching.proofs.steps.without.Tie as tie
 

@@ -1,2 +1,0 @@
-pub mod NineLaws
-pub mod ValueLaws

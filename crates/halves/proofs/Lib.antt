@@ -1,0 +1,12 @@
+pub mod ParityLaws
+pub mod EvenLaws
+pub mod FinishLaws
+pub mod HalvingLaws
+pub mod TwoLaws
+pub mod HalvingGives
+pub mod BitLaws
+pub mod HalvingsLaws
+pub mod FloorLaws
+pub mod BooleanLaws
+pub mod CarrySteps
+pub mod CarryLaws

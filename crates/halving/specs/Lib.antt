@@ -1,2 +1,0 @@
-pub mod Halving
-pub mod AtOnce

@@ -1,0 +1,10 @@
+pub mod SwitchSteps
+pub mod SwitchLaws
+pub mod ModulusGives
+pub mod DrawingLaws
+pub mod SampleSteps
+pub mod SampleGives
+pub mod MaskLaws
+pub mod RowLaws
+pub mod PolynomialGives
+pub mod MasksLaws

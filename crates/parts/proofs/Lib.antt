@@ -1,0 +1,3 @@
+pub mod DecomposeSteps
+pub mod PlainLaws
+pub mod DecomposeGives

@@ -1,0 +1,5 @@
+pub mod ListLaws
+pub mod PsiLaws
+pub mod RuleLaws
+pub mod NineLaws
+pub mod ArithmeticGives

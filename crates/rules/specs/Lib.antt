@@ -1,0 +1,3 @@
+pub mod Psi
+pub mod Rule
+pub mod ToArithmetic

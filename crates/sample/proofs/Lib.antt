@@ -1,4 +1,0 @@
-pub mod DrawingLaws
-pub mod StepLaws
-pub mod ValueLaws
-pub mod MaskLaws

@@ -1,2 +1,0 @@
-pub mod Sampling
-pub mod Mask

@@ -1,4 +1,0 @@
-pub mod BitLaws
-pub mod HalvingsLaws
-pub mod FloorLaws
-pub mod BooleanLaws

@@ -1,3 +1,0 @@
-pub mod Shift
-pub mod ToBoolean
-pub mod Halvings

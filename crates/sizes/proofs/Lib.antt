@@ -1,0 +1,12 @@
+pub mod WideningSteps
+pub mod WideningGives
+pub mod ProductSteps
+pub mod ProductGives
+pub mod ZeroSteps
+pub mod ZeroLaws
+pub mod SidesSteps
+pub mod VerdictSteps
+pub mod PlainLaws
+pub mod PartLaws
+pub mod VerdictGives
+pub mod ScalarLaws

@@ -1,2 +1,0 @@
-pub mod StepLaws
-pub mod ValueLaws

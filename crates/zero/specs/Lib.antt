@@ -1,2 +1,0 @@
-pub mod ZeroTest
-pub mod Scalars
