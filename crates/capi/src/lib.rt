@@ -3,19 +3,11 @@ use gadgets::Answer;
 use gadgets::Decomposed;
 use gadgets::Judged;
 ghost use mathlib.Core.Path.{_≡_};
-ghost use Rattle.gate.specs.Told.{standsFor};
+ghost use Rattle.gate.specs.Told.{standsFor, partsStandFor, judgedStandsFor};
 ghost use Rattle.gate.specs.Gadget.{tells};
 ghost use Rattle.gate.specs.Sampler.{samples};
 ghost use Rattle.gate.specs.Judge.{judges};
-ghost use Rattle.refreshes.specs.Refresh.{refreshGadget, booleanGadget};
-ghost use Rattle.shifts.specs.Shift.{shiftGadget, toBooleanGadget};
-ghost use Rattle.conversions.specs.Convert.{toArithmeticGadget, toModQGadget};
-ghost use Rattle.samplers.specs.Samplers.{sampler, polynomialSampler};
-ghost use Rattle.widens.specs.Widen.{widenGadget};
-ghost use Rattle.decomposes.specs.Decompose.{decomposeGadget};
-ghost use Rattle.judges.specs.Verdict.{verdictGadget};
-ghost use Rattle.decomposes.specs.Answers.{partsStandFor};
-ghost use Rattle.judges.specs.Answers.{judgedStandsFor};
+ghost use Rattle.demands.specs.Gadgets.{refreshGadget, booleanGadget, shiftGadget, toBooleanGadget, toArithmeticGadget, toModQGadget, sampler, polynomialSampler, widenGadget, decomposeGadget, verdictGadget};
 
 #[no_mangle]
 pub extern "C" fn xe_refresh(shares: &[u32], tape: &[u32], modulus: u32, out: &mut [u32]) -> Answer

@@ -14,7 +14,7 @@ use words::power;
 ghost use mathlib.Core.Path.{_≡_};
 ghost use Rattle.gate.specs.Told.{standsFor};
 ghost use Rattle.gate.specs.Gadget.{tells};
-ghost use Rattle.conversions.specs.Convert.{toArithmeticGadget, toModQGadget};
+ghost use Rattle.demands.specs.Gadgets.{toArithmeticGadget, toModQGadget};
 
 pub fn to_arithmetic(shares: &[u32], tape: &[u32], k: u32, out: &mut [u32]) -> Answer
     ensures { λ r. ⌜ standsFor r (now (out .exit)) ≡ tells (toArithmeticGadget k) (now (shares .entry)) (now (tape .entry)) (now (out .entry)) ⌝ }

@@ -12,12 +12,11 @@ use Rattle.draws.proofs.RunLaws.{bind-assoc, part-ran, part-ended}
 use Rattle.shares.specs.Sharing.{arithmetic}
 use Rattle.shares.specs.Refresh.{refresh}
 use Rattle.gate.specs.declared.Answer.{Answer}
-use Rattle.gate.specs.Told.{Told, refusal, openedRan, silentRan, ranTold, standsFor}
+use Rattle.gate.specs.Told.{Told, refusal, openedRan, silentRan, ranTold, standsFor, partsStandFor}
 use Rattle.gate.specs.Gadget.{closed}
 use Rattle.gate.proofs.GadgetLaws.{run-opened}
 use Rattle.parts.specs.Decompose.{highPart, lowShares, decompose}
-use Rattle.decomposes.specs.declared.Decomposed.{Decomposed}
-use Rattle.decomposes.specs.Answers.{partsStandFor}
+use Rattle.gate.specs.declared.Decomposed.{Decomposed}
 
 -- what was told of the low shares, with the numbers that were opened before: where it is a refusal, and where it is not
 module _ (a : Answer) (out left : List ℕ) (x : Ran (List ℕ)) (e : standsFor a left ≡ ranTold 0 (silentRan x) out) where

@@ -6,6 +6,7 @@ use copies::copy_in;
 use decompose::High;
 use decompose::high_part;
 use decompose::low_shares;
+use gate::Decomposed;
 use gate::finish;
 use params::Params;
 use shares::refresh;
@@ -21,19 +22,10 @@ ghost use Rattle.draws.specs.Draws.{run};
 ghost use Rattle.shares.specs.Sharing.{arithmetic};
 ghost use Rattle.shares.specs.Refresh.{refresh};
 ghost use Rattle.checks.specs.Checks.{Checked};
-ghost use Rattle.gate.specs.Told.{refusal, ranTold};
+ghost use Rattle.gate.specs.Told.{refusal, ranTold, partsStandFor};
 ghost use Rattle.gate.specs.Gadget.{closed, tells};
 ghost use Rattle.parts.specs.Decompose.{decompose};
-ghost use Rattle.decomposes.specs.Decompose.{decomposeGadget};
-ghost use Rattle.decomposes.specs.Answers.{partsStandFor};
-
-// What Decompose answers: 0, or the number of a refusal; the high part, and how many tape words were read, both 0 in a refusal.
-#[repr(C)]
-pub struct Decomposed {
-    pub number: u32,
-    pub high: u32,
-    pub used: usize,
-}
+ghost use Rattle.demands.specs.Gadgets.{decomposeGadget};
 
 fn refused_parts(number: u32) -> Decomposed
     ensures { λ r. ⌜ ((out : List ℕ) → partsStandFor r out ≡ refusal 1 number out) ⌝ }

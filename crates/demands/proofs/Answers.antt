@@ -16,7 +16,7 @@ use Rattle.draws.proofs.Outcomes.{Plan}
 use Rattle.checks.specs.Checks.{inside, firstFailing, checksOf}
 use Rattle.gate.specs.Told.{Outcome, checkNumber}
 use Rattle.checks.proofs.CheckLaws.{both-left, both-right, inside-yes, inside-out, fails-1, fails-2, fails-3, fails-later}
-use Rattle.widens.specs.Widen.{kindRange}
+use Rattle.demands.specs.Gadgets.{kindRange}
 use Rattle.demands.specs.Call.{CallClaim, Counted, Valid}
 
 pub record Answers (c : CallClaim) : Type 0 where

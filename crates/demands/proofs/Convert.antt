@@ -22,7 +22,7 @@ use Rattle.masks.specs.ToModulus.{toModulusPlan}
 use Rattle.masks.proofs.ModulusGives.{to-modulus-keeps}
 use Rattle.gate.specs.Told.{standsFor, silent}
 use Rattle.gate.specs.Gadget.{silentSteps, tells}
-use Rattle.conversions.specs.Convert.{toArithmeticGadget, toModQGadget}
+use Rattle.demands.specs.Gadgets.{toArithmeticGadget, toModQGadget}
 use Rattle.demands.specs.Claim.{plan}
 use Rattle.demands.specs.Demands.{Demands}
 use Rattle.demands.specs.Unique.{Unique}

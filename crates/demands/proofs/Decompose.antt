@@ -20,8 +20,8 @@ use Rattle.halves.proofs.FloorLaws.{shift-draws}
 use Rattle.gate.specs.Gadget.{tells}
 use Rattle.parts.specs.Decompose.{highPlan}
 use Rattle.parts.proofs.DecomposeGives.{decompose-gives}
-use Rattle.decomposes.specs.Decompose.{decomposeGadget}
-use Rattle.decomposes.specs.Answers.{partsStandFor}
+use Rattle.demands.specs.Gadgets.{decomposeGadget}
+use Rattle.gate.specs.Told.{partsStandFor}
 use Rattle.demands.specs.Claim.{plan}
 use Rattle.demands.specs.Demands.{Demands}
 use Rattle.demands.specs.Unique.{Unique}

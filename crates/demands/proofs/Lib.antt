@@ -1,3 +1,4 @@
+pub mod RangeLaws
 pub mod Runs
 pub mod Answers
 pub mod Steps

@@ -8,7 +8,7 @@ use Rattle.draws.proofs.PlanLaws.{gives-done}
 use Rattle.gate.specs.Told.{standsFor}
 use Rattle.gate.specs.Gadget.{silentSteps, tells}
 use Rattle.checks.proofs.CheckLaws.{inside-yes, inside-out}
-use Rattle.refreshes.specs.Refresh.{refreshGadget, booleanGadget}
+use Rattle.demands.specs.Gadgets.{refreshGadget, booleanGadget}
 use Rattle.demands.specs.Demands.{Demands}
 use Rattle.demands.specs.Unique.{Unique}
 use Rattle.demands.specs.Refresh.{refreshClaim, booleanClaim}

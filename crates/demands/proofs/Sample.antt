@@ -17,8 +17,7 @@ use Rattle.masks.proofs.SampleGives.{coefficient-gives}
 use Rattle.masks.proofs.MaskLaws.{coefficient-masks}
 use Rattle.masks.proofs.PolynomialGives.{polynomial-gives}
 use Rattle.masks.proofs.MasksLaws.{polynomial-masks}
-use Rattle.samplers.specs.Samplers.{sampler, polynomialSampler}
-use Rattle.conversions.specs.Convert.{toModQGadget}
+use Rattle.demands.specs.Gadgets.{sampler, polynomialSampler, toModQGadget}
 use Rattle.demands.specs.Claim.{plan}
 use Rattle.demands.specs.Convert.{toModQClaim}
 use Rattle.demands.specs.Demands.{SamplerDemands}

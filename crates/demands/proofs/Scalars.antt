@@ -33,7 +33,7 @@ use Rattle.sizes.specs.LastScalar.{lastScalarMarks}
 use Rattle.sizes.proofs.PlainLaws.{accepted-not-zero}
 use Rattle.sizes.proofs.VerdictGives.{Opens, verdict-feed, rejected-opens, accepted-opens}
 use Rattle.sizes.proofs.ScalarLaws.{earlier, plan-last, is-last, one-last-scalar}
-use Rattle.judges.specs.Verdict.{verdictGadget}
+use Rattle.demands.specs.Gadgets.{verdictGadget}
 use Rattle.demands.specs.Call.{Valid}
 use Rattle.demands.specs.Verdict.{meant, Within, verdictClaim}
 use Rattle.demands.specs.Scalars.{OneScalar, BothZero, VerdictSettings}

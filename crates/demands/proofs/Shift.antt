@@ -16,8 +16,8 @@ use Rattle.halves.proofs.FloorLaws.{shift-floor, shift-draws}
 use Rattle.halves.proofs.BooleanLaws.{to-boolean-keeps}
 use Rattle.gate.specs.Told.{standsFor, silent}
 use Rattle.gate.specs.Gadget.{silentSteps, tells}
-use Rattle.shifts.specs.Shift.{shiftGadget, toBooleanGadget}
-use Rattle.shifts.proofs.RangeLaws.{shift-range-in, shift-range-out, whole-power}
+use Rattle.demands.specs.Gadgets.{shiftGadget, toBooleanGadget}
+use Rattle.demands.proofs.RangeLaws.{shift-range-in, shift-range-out, whole-power}
 use Rattle.demands.specs.Claim.{plan}
 use Rattle.demands.specs.Demands.{Demands}
 use Rattle.demands.specs.Unique.{Unique}

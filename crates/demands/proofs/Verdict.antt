@@ -11,7 +11,7 @@ use Rattle.shares.specs.Sharing.{arithmetic}
 use Rattle.shares.specs.Refresh.{refreshPlan}
 use Rattle.halves.specs.Shift.{shiftPlan}
 use Rattle.halves.proofs.FloorLaws.{shift-draws}
-use Rattle.gate.specs.Told.{Told}
+use Rattle.gate.specs.Told.{Told, judgedStandsFor}
 use Rattle.gate.specs.Judge.{judges}
 use Rattle.sizes.specs.Widening.{widenPlan}
 use Rattle.sizes.specs.Product.{productPlan}
@@ -19,9 +19,8 @@ use Rattle.sizes.specs.ZeroTest.{scalesPlan}
 use Rattle.sizes.specs.Sides.{sidesPlan}
 use Rattle.sizes.specs.Verdict.{frontPlan, verdictPlan}
 use Rattle.sizes.proofs.ZeroLaws.{scales-length}
-use Rattle.judges.specs.declared.Judged.{Judged}
-use Rattle.judges.specs.Verdict.{verdictGadget}
-use Rattle.judges.specs.Answers.{judgedStandsFor}
+use Rattle.gate.specs.declared.Judged.{Judged}
+use Rattle.demands.specs.Gadgets.{verdictGadget}
 use Rattle.demands.specs.Demands.{VerdictDemands}
 use Rattle.demands.specs.Unique.{UniqueAnswer}
 use Rattle.demands.proofs.VerdictSteps.{on-judged, no-room}

@@ -25,8 +25,7 @@ use Rattle.gate.proofs.GadgetLaws.{judge-checks}
 use Rattle.sizes.specs.Verdict.{verdictOf, verdict, verdictPlan}
 use Rattle.sizes.specs.Plain.{openedOf}
 use Rattle.sizes.proofs.VerdictGives as Value
-use Rattle.widens.specs.Widen.{kindRange}
-use Rattle.judges.specs.Verdict.{verdictGadget}
+use Rattle.demands.specs.Gadgets.{kindRange, verdictGadget}
 use Rattle.demands.specs.Call.{Valid}
 use Rattle.demands.specs.Verdict.{meant, Within, Judgement, verdictClaim}
 use Rattle.demands.proofs.Answers.{Answers, kind-tested, laws-of, not-so, first-count, first-parameter, first-later}

@@ -16,7 +16,7 @@ use Rattle.gate.specs.Gadget.{silentSteps, tells}
 use Rattle.sizes.specs.Widening.{widenPlan}
 use Rattle.sizes.proofs.WideningSteps.{wide-two}
 use Rattle.sizes.proofs.WideningGives.{widen-gives}
-use Rattle.widens.specs.Widen.{widenGadget}
+use Rattle.demands.specs.Gadgets.{widenGadget}
 use Rattle.demands.specs.Claim.{plan}
 use Rattle.demands.specs.Demands.{Demands}
 use Rattle.demands.specs.Unique.{Unique}

@@ -3,7 +3,7 @@ use Prim.Native.Nat.{ℕ, _≤_}
 use Rattle.numbers.specs.Modulo.{q}
 use Rattle.rules.specs.ToArithmetic.{toArithmeticPlan}
 use Rattle.masks.specs.ToModulus.{toModulusPlan}
-use Rattle.conversions.specs.Convert.{toArithmeticGadget, toModQGadget}
+use Rattle.demands.specs.Gadgets.{toArithmeticGadget, toModQGadget}
 use Rattle.demands.specs.Claim.{Claim, keeping}
 
 -- from an exclusive or of width k to a sum modulo 2^k

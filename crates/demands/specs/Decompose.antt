@@ -7,7 +7,7 @@ use Rattle.numbers.specs.Centred.{centred}
 use Rattle.params.specs.Sets.{Known, paramsOf}
 use Rattle.parts.specs.Decompose.{highPlan}
 use Rattle.parts.specs.Plain.{highOf, lowOf}
-use Rattle.decomposes.specs.Decompose.{decomposeGadget}
+use Rattle.demands.specs.Gadgets.{decomposeGadget}
 use Rattle.demands.specs.Claim.{Claim}
 
 -- a low residue above (q−1)/2 means itself less q

@@ -4,7 +4,7 @@ use mathlib.Core.List.{List}
 use Prim.Native.Nat.{ℕ}
 use Rattle.gate.specs.Sampler.{samples}
 use Rattle.gate.specs.Judge.{judges}
-use Rattle.judges.specs.Verdict.{verdictGadget}
+use Rattle.demands.specs.Gadgets.{verdictGadget}
 use Rattle.demands.specs.Claim.{Claim, onShares}
 use Rattle.demands.specs.SamplerClaim.{SamplerClaim, onStated}
 use Rattle.demands.specs.Refusals.{Refusals}

@@ -1,3 +1,4 @@
+pub mod Gadgets
 pub mod Call
 pub mod Claim
 pub mod SamplerClaim

@@ -1,7 +1,7 @@
 -- What is claimed of both refreshes (document 01, "Steps" and "What a caller gets back"): they are the closing refresh alone, and keep the value.
 use mathlib.Core.List.{[]}
 use Prim.Native.Nat.{ℕ, _≤_}
-use Rattle.refreshes.specs.Refresh.{refreshGadget, booleanGadget}
+use Rattle.demands.specs.Gadgets.{refreshGadget, booleanGadget}
 use Rattle.demands.specs.Claim.{Claim, keeping}
 
 -- no draws before the closing refresh

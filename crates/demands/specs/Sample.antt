@@ -7,7 +7,7 @@ use Rattle.masks.specs.Sampling.{coefficientPlan}
 use Rattle.masks.specs.Polynomial.{polynomialPlan}
 use Rattle.masks.specs.Mask.{Mask}
 use Rattle.masks.specs.Masks.{Masks}
-use Rattle.samplers.specs.Samplers.{sampler, polynomialSampler}
+use Rattle.demands.specs.Gadgets.{sampler, polynomialSampler}
 use Rattle.demands.specs.SamplerClaim.{SamplerClaim}
 
 -- one coefficient of a mask

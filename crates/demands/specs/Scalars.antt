@@ -13,7 +13,7 @@ use Rattle.gate.specs.Judge.{judges}
 use Rattle.sizes.specs.Verdict.{verdictPlan}
 use Rattle.sizes.specs.Plain.{accepted}
 use Rattle.sizes.specs.LastScalar.{lastScalarMarks}
-use Rattle.judges.specs.Verdict.{verdictGadget}
+use Rattle.demands.specs.Gadgets.{verdictGadget}
 use Rattle.demands.specs.Call.{Valid}
 use Rattle.demands.specs.Verdict.{meant, Within, verdictClaim}
 

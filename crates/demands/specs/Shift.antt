@@ -4,7 +4,7 @@ use mathlib.Core.List.{[]}
 use Prim.Native.Nat.{ℕ, _/_, _%_, _^_, _≤_}
 use Rattle.halves.specs.Shift.{shiftPlan}
 use Rattle.halves.specs.ToBoolean.{toBooleanPlan}
-use Rattle.shifts.specs.Shift.{shiftGadget, toBooleanGadget}
+use Rattle.demands.specs.Gadgets.{shiftGadget, toBooleanGadget}
 use Rattle.demands.specs.Claim.{Claim, keeping}
 
 -- from modulo M to modulo M/2^t: the value becomes floor(x / 2^t)

@@ -20,7 +20,7 @@ use Rattle.gate.specs.Told.{Outcome}
 use Rattle.gate.specs.Judge.{judgeCall}
 use Rattle.sizes.specs.Verdict.{verdictOf, verdictPlan}
 use Rattle.sizes.specs.Plain.{accepted, openedOf}
-use Rattle.judges.specs.Verdict.{verdictGadget}
+use Rattle.demands.specs.Gadgets.{verdictGadget}
 use Rattle.demands.specs.Call.{CallClaim, Counted}
 
 -- the number that shares mean: a residue above (q−1)/2 means itself less q

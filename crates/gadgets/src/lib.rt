@@ -2,10 +2,10 @@
 // polynomial sampler, which sets it to zeros.
 pub use conversions::to_arithmetic;
 pub use conversions::to_mod_q;
-pub use decomposes::Decomposed;
 pub use decomposes::decompose;
 pub use gate::Answer;
-pub use judges::Judged;
+pub use gate::Decomposed;
+pub use gate::Judged;
 pub use judges::verdict;
 pub use refreshes::refresh;
 pub use refreshes::refresh_boolean;

@@ -1,6 +1,6 @@
 -- What a caller gets back (document 01, "What a caller gets back").
 use mathlib.Core.Bool.{Bool}
-use mathlib.Core.List.{List, []}
+use mathlib.Core.List.{List, [], _∷_}
 use Prim.Native.Nat.{ℕ}
 use lib.ListN.{replicate}
 use lib.Dec.{eqb}
@@ -9,6 +9,8 @@ use Rattle.tape.specs.Tape.{Ran, ended, ran, start}
 use Rattle.draws.specs.Draws.{Draws, run}
 use Rattle.checks.specs.Checks.{firstFailing}
 use Rattle.gate.specs.declared.Answer.{Answer}
+use Rattle.gate.specs.declared.Decomposed.{Decomposed}
+use Rattle.gate.specs.declared.Judged.{Judged}
 
 -- the number; the other fields, which a gadget fills with the numbers that it opens, and the verdict with its verdict too; the words used; and the output
 -- slice
@@ -70,3 +72,11 @@ told c tape =
 -- what an answer with no other field and the output slice stand for
 unfoldable pub standsFor : Answer → List ℕ → Told
 standsFor r out = record { number = r .number; opened = []; used = r .used; out = out }
+
+-- and of Decompose, whose other field is the high part
+unfoldable pub partsStandFor : Decomposed → List ℕ → Told
+partsStandFor r out = record { number = r .number; opened = r .high ∷ []; used = r .used; out = out }
+
+-- and of the verdict, with its verdict and the opened number, and no output slice
+unfoldable pub judgedStandsFor : Judged → Told
+judgedStandsFor r = record { number = r .number; opened = r .verdict ∷ r .opened ∷ []; used = r .used; out = [] }

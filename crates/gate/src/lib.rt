@@ -1,4 +1,4 @@
-// What a caller gets back: the answer, and the output slice filled.
+// What a caller gets back: the answers, and the output slice filled.
 use copies::copy_out;
 use shares::Shared;
 ghost use mathlib.Core.Path.{_≡_};
@@ -12,6 +12,24 @@ ghost use Rattle.gate.specs.Told.{refusal, silentRan, ranTold, standsFor
 #[repr(C)]
 pub struct Answer {
     pub number: u32,
+    pub used: usize,
+}
+
+// What Decompose answers: 0, or the number of a refusal; the high part, and how many tape words were read, both 0 in a refusal.
+#[repr(C)]
+pub struct Decomposed {
+    pub number: u32,
+    pub high: u32,
+    pub used: usize,
+}
+
+// What the verdict answers: `number`, 0 or that of a refusal; `verdict`, 1 where the coefficient is accepted and 0 where it is rejected; what was
+// opened, and how many tape words were read. In a refusal all but `number` are 0.
+#[repr(C)]
+pub struct Judged {
+    pub number: u32,
+    pub verdict: u32,
+    pub opened: u32,
     pub used: usize,
 }
 

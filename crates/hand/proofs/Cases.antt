@@ -25,10 +25,8 @@ use Rattle.gate.specs.Told.{refusal, ranTold, checkNumber, told}
 use Rattle.gate.specs.Gadget.{silentSteps, closed, tells}
 use Rattle.gate.specs.Sampler.{samples}
 use Rattle.masks.specs.Sampling.{lowered, coefficient}
-use Rattle.samplers.specs.Samplers.{sampler}
+use Rattle.demands.specs.Gadgets.{sampler, shiftRange, shiftGadget, toBooleanGadget, toArithmeticGadget}
 use Rattle.parts.specs.Plain.{remainder, multiple, exception, highOf, lowOf}
-use Rattle.shifts.specs.Shift.{shiftRange, shiftGadget, toBooleanGadget}
-use Rattle.conversions.specs.Convert.{toArithmeticGadget}
 use Rattle.hand.specs.Cases.{Cases}
 
 pub cases : Cases

@@ -25,14 +25,9 @@ use Rattle.gate.specs.Gadget.{silentSteps, closed, tells}
 use Rattle.gate.specs.Sampler.{samples}
 use Rattle.masks.specs.Sampling.{lowered, coefficient}
 use Rattle.masks.specs.Polynomial.{filled, row, polynomial}
-use Rattle.samplers.specs.Samplers.{sampler, polynomialSampler}
+use Rattle.demands.specs.Gadgets.{sampler, polynomialSampler, kindRange, widenGadget, decomposeGadget, shiftRange, shiftGadget, toBooleanGadget, toArithmeticGadget, toModQGadget, refreshGadget, booleanGadget}
 use Rattle.sizes.specs.Widening.{widen}
 use Rattle.parts.specs.Decompose.{highShares, highPart, lowShares, decompose}
-use Rattle.widens.specs.Widen.{kindRange, widenGadget}
-use Rattle.decomposes.specs.Decompose.{decomposeGadget}
-use Rattle.shifts.specs.Shift.{shiftRange, shiftGadget, toBooleanGadget}
-use Rattle.conversions.specs.Convert.{toArithmeticGadget, toModQGadget}
-use Rattle.refreshes.specs.Refresh.{refreshGadget, booleanGadget}
 use Rattle.hand.specs.Worked.{Worked}
 
 pub worked : Worked

@@ -21,8 +21,7 @@ use Rattle.sizes.specs.Product.{begun, crossed, pair, row, product, productPlan
 use Rattle.sizes.specs.ZeroTest.{scaled, scaleTurn, zeroTest, scalePlan, scalesPlan}
 use Rattle.sizes.specs.Sides.{side, sidesProduct, sidesPlan}
 use Rattle.sizes.specs.Verdict.{tested, verdictOf, verdict, frontPlan, verdictPlan}
-use Rattle.widens.specs.Widen.{kindRange}
-use Rattle.judges.specs.Verdict.{verdictGadget}
+use Rattle.demands.specs.Gadgets.{kindRange, verdictGadget}
 use Rattle.hand.specs.WorkedVerdict.{WorkedVerdict}
 
 pub worked-verdict : WorkedVerdict

@@ -10,10 +10,8 @@ use Rattle.rules.specs.Psi.{psi}
 use Rattle.gate.specs.Told.{Told}
 use Rattle.gate.specs.Gadget.{tells}
 use Rattle.gate.specs.Sampler.{samples}
-use Rattle.samplers.specs.Samplers.{sampler}
+use Rattle.demands.specs.Gadgets.{sampler, shiftGadget, toBooleanGadget, toArithmeticGadget}
 use Rattle.parts.specs.Plain.{highOf, lowOf}
-use Rattle.shifts.specs.Shift.{shiftGadget, toBooleanGadget}
-use Rattle.conversions.specs.Convert.{toArithmeticGadget}
 
 -- a call that succeeds with two shares
 abbrev shares : ℕ → ℕ → ℕ → Told

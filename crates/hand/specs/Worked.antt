@@ -7,12 +7,7 @@ use lib.ListN.{replicate}
 use Rattle.numbers.specs.Lists.{over}
 use Rattle.gate.specs.Gadget.{tells}
 use Rattle.gate.specs.Sampler.{samples}
-use Rattle.samplers.specs.Samplers.{sampler, polynomialSampler}
-use Rattle.widens.specs.Widen.{widenGadget}
-use Rattle.decomposes.specs.Decompose.{decomposeGadget}
-use Rattle.refreshes.specs.Refresh.{refreshGadget, booleanGadget}
-use Rattle.shifts.specs.Shift.{shiftGadget, toBooleanGadget}
-use Rattle.conversions.specs.Convert.{toArithmeticGadget, toModQGadget}
+use Rattle.demands.specs.Gadgets.{sampler, polynomialSampler, widenGadget, decomposeGadget, refreshGadget, booleanGadget, shiftGadget, toBooleanGadget, toArithmeticGadget, toModQGadget}
 
 pub record Worked : Type 0 where
   -- of 12, 3, 6 the first word is skipped: 3 and 6 go into the first two shares and are taken from the third

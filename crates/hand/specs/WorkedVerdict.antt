@@ -10,7 +10,7 @@ use Rattle.draws.specs.Draws.{run}
 use Rattle.gate.specs.Judge.{judges}
 use Rattle.sizes.specs.Product.{product}
 use Rattle.sizes.specs.Verdict.{tested, verdictPlan}
-use Rattle.judges.specs.Verdict.{verdictGadget}
+use Rattle.demands.specs.Gadgets.{verdictGadget}
 
 -- for two shares: 24 draws, and two words that are skipped
 abbrev pub verdictTape : List ℕ

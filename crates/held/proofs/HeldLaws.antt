@@ -9,9 +9,8 @@ use lib.Seq.{getD-take}
 use Rattle.numbers.specs.Modulo.{q, addMod}
 use Rattle.tape.specs.declared.Cursor.{Cursor}
 use Rattle.tape.specs.Tape.{Ran, ended, ran}
-use Rattle.gate.specs.Told.{Told}
-use Rattle.decomposes.specs.declared.Decomposed.{Decomposed}
-use Rattle.decomposes.specs.Answers.{partsStandFor}
+use Rattle.gate.specs.Told.{Told, partsStandFor}
+use Rattle.gate.specs.declared.Decomposed.{Decomposed}
 use Rattle.passing.specs.Held.{held, stepsHeld, partsShown}
 
 pub parts-held :

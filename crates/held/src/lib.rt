@@ -25,11 +25,7 @@ ghost use Rattle.rules.specs.ToArithmetic.{toArithmetic};
 ghost use Rattle.gate.specs.Gadget.{tells};
 ghost use Rattle.gate.specs.Judge.{judges};
 ghost use Rattle.gate.specs.Sampler.{samples};
-ghost use Rattle.refreshes.specs.Refresh.{refreshGadget};
-ghost use Rattle.shifts.specs.Shift.{shiftGadget, toBooleanGadget};
-ghost use Rattle.samplers.specs.Samplers.{sampler};
-ghost use Rattle.decomposes.specs.Decompose.{decomposeGadget};
-ghost use Rattle.judges.specs.Verdict.{verdictGadget};
+ghost use Rattle.demands.specs.Gadgets.{refreshGadget, shiftGadget, toBooleanGadget, sampler, decomposeGadget, verdictGadget};
 ghost use Rattle.passing.specs.Held.{sevens, held, sharesShown, stepsHeld, partsShown, verdictShown};
 
 fn held(wanted: [u32; 4], number: u32, used: usize, third: u32, fourth: u32) -> bool

@@ -9,10 +9,9 @@ use Rattle.tape.specs.Tape.{ended, ran}
 use Rattle.draws.specs.Draws.{run}
 use Rattle.draws.proofs.RunLaws.{run-done, part-ran, part-ended}
 use Rattle.shares.specs.Sharing.{arithmetic, value}
-use Rattle.gate.specs.Told.{refusal, ranTold}
+use Rattle.gate.specs.Told.{refusal, ranTold, judgedStandsFor}
 use Rattle.sizes.specs.Verdict.{tested, verdictOf, verdict}
-use Rattle.judges.specs.declared.Judged.{Judged}
-use Rattle.judges.specs.Answers.{judgedStandsFor}
+use Rattle.gate.specs.declared.Judged.{Judged}
 
 module _ (k : Bounds) (xs tape : List ℕ) (c : Cursor) where
   pub judged-ended : run (tested k xs) tape c ≡ ended → refusal 2 5 [] ≡ ranTold 2 (run (verdict k xs) tape c) []

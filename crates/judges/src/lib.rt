@@ -3,6 +3,7 @@ use checks::Admitted;
 use checks::admit;
 use checks::first_failing;
 use copies::copy_in;
+use gate::Judged;
 use opening::opened;
 use params::Bounds;
 use params::Params;
@@ -17,21 +18,10 @@ ghost use Rattle.params.specs.Laws.{KindLaws};
 ghost use Rattle.tape.specs.Tape.{start};
 ghost use Rattle.draws.specs.Draws.{run};
 ghost use Rattle.checks.specs.Checks.{Checked};
-ghost use Rattle.gate.specs.Told.{refusal, ranTold};
+ghost use Rattle.gate.specs.Told.{refusal, ranTold, judgedStandsFor};
 ghost use Rattle.gate.specs.Judge.{judges};
 ghost use Rattle.sizes.specs.Verdict.{verdictOf, verdict};
-ghost use Rattle.judges.specs.Verdict.{verdictGadget};
-ghost use Rattle.judges.specs.Answers.{judgedStandsFor};
-
-// What the verdict answers: `number`, 0 or that of a refusal; `verdict`, 1 where the coefficient is accepted and 0 where it is rejected; what was
-// opened, and how many tape words were read. In a refusal all but `number` are 0.
-#[repr(C)]
-pub struct Judged {
-    pub number: u32,
-    pub verdict: u32,
-    pub opened: u32,
-    pub used: usize,
-}
+ghost use Rattle.demands.specs.Gadgets.{verdictGadget};
 
 fn refused_verdict(number: u32) -> Judged
     ensures { λ r. ⌜ judgedStandsFor r ≡ refusal 2 number [] ⌝ }

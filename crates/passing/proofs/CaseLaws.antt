@@ -30,18 +30,13 @@ use Rattle.gate.specs.Gadget.{silentSteps, closed, tells}
 use Rattle.gate.specs.Sampler.{samples}
 use Rattle.gate.specs.Judge.{judgeChecks, judges}
 use Rattle.masks.specs.Sampling.{lowered, coefficient}
-use Rattle.samplers.specs.Samplers.{sampler}
+use Rattle.demands.specs.Gadgets.{sampler, refreshGadget, shiftRange, shiftGadget, toBooleanGadget, kindRange, decomposeGadget, verdictGadget}
 use Rattle.sizes.specs.Widening.{widen}
 use Rattle.parts.specs.Decompose.{highShares, highPart, lowShares, decompose}
 use Rattle.sizes.specs.Product.{begun, crossed, pair, row, product}
 use Rattle.sizes.specs.ZeroTest.{scaled, scaleTurn, zeroTest}
 use Rattle.sizes.specs.Sides.{side, sidesProduct}
 use Rattle.sizes.specs.Verdict.{tested, verdictOf, verdict}
-use Rattle.refreshes.specs.Refresh.{refreshGadget}
-use Rattle.shifts.specs.Shift.{shiftRange, shiftGadget, toBooleanGadget}
-use Rattle.widens.specs.Widen.{kindRange}
-use Rattle.decomposes.specs.Decompose.{decomposeGadget}
-use Rattle.judges.specs.Verdict.{verdictGadget}
 use Rattle.passing.specs.Held.{sevens, smallTape, held, sharesShown, stepsHeld, partsShown, verdictShown}
 
 abbrev shown : (wanted : List ℕ) → Told → Type 0

@@ -10,7 +10,7 @@ use tape::Cursor;
 ghost use mathlib.Core.Path.{_≡_};
 ghost use Rattle.gate.specs.Told.{standsFor};
 ghost use Rattle.gate.specs.Gadget.{tells};
-ghost use Rattle.refreshes.specs.Refresh.{refreshGadget, booleanGadget};
+ghost use Rattle.demands.specs.Gadgets.{refreshGadget, booleanGadget};
 
 pub fn refresh(shares: &[u32], tape: &[u32], modulus: u32, out: &mut [u32]) -> Answer
     ensures { λ r. ⌜ standsFor r (now (out .exit)) ≡ tells (refreshGadget modulus) (now (shares .entry)) (now (tape .entry)) (now (out .entry)) ⌝ }

@@ -21,7 +21,7 @@ ghost use Rattle.draws.specs.Draws.{run};
 ghost use Rattle.masks.specs.Polynomial.{polynomial};
 ghost use Rattle.gate.specs.Told.{silentRan, ranTold, standsFor};
 ghost use Rattle.gate.specs.Sampler.{samples};
-ghost use Rattle.samplers.specs.Samplers.{sampler, polynomialSampler};
+ghost use Rattle.demands.specs.Gadgets.{sampler, polynomialSampler};
 
 // The pass that closes also takes γ1 − 1 off: it reads the shares where the conversion left them.
 pub fn sample(tape: &[u32], n: usize, set: u32, out: &mut [u32]) -> Answer

@@ -14,8 +14,7 @@ ghost use Prim.Native.Nat.{_+_, _<_};
 ghost use Rattle.numbers.specs.Tests.{both};
 ghost use Rattle.gate.specs.Gadget.{tells};
 ghost use Rattle.gate.specs.Judge.{judges};
-ghost use Rattle.decomposes.specs.Decompose.{decomposeGadget};
-ghost use Rattle.judges.specs.Verdict.{verdictGadget};
+ghost use Rattle.demands.specs.Gadgets.{decomposeGadget, verdictGadget};
 ghost use Rattle.passing.specs.Held.{sevens, smallTape, held, partsShown, verdictShown};
 
 // Words that no draw skips, for the cases in shares.

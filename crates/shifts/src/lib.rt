@@ -15,7 +15,7 @@ ghost use mathlib.Core.Path.{_≡_};
 ghost use Prim.Native.Nat.{_/_, _^_, _≤_};
 ghost use Rattle.gate.specs.Told.{standsFor};
 ghost use Rattle.gate.specs.Gadget.{tells};
-ghost use Rattle.shifts.specs.Shift.{shiftRange, shiftGadget, toBooleanGadget};
+ghost use Rattle.demands.specs.Gadgets.{shiftRange, shiftGadget, toBooleanGadget};
 
 // The modulus without its t factors of 2. Its divisor, and that of the remainder below, is a power of two, so both compile to a shift and a mask.
 fn quotient(modulus: u32, t: u32) -> u32

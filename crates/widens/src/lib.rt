@@ -23,7 +23,7 @@ ghost use Rattle.checks.specs.Checks.{Checked};
 ghost use Rattle.gate.specs.Told.{silentRan, ranTold, standsFor};
 ghost use Rattle.gate.specs.Gadget.{tells};
 ghost use Rattle.sizes.specs.Widening.{widened, widen};
-ghost use Rattle.widens.specs.Widen.{kindRange, widenGadget};
+ghost use Rattle.demands.specs.Gadgets.{kindRange, widenGadget};
 
 // Both parameters of widening and of the verdict are in their ranges.
 pub fn kind_range(set: u32, kind: u32) -> bool

@@ -13,7 +13,7 @@ use Rattle.rules.specs.ToArithmetic.{toArithmetic}
 use Rattle.checks.specs.Checks.{inside, firstFailing, checks}
 use Rattle.checks.proofs.CheckLaws.{Passed, all-passed, inside-out, checked-width}
 use Rattle.gate.proofs.GadgetLaws.{silent-refused, silent-ran, closed-on-copy, held, held-given}
-use Rattle.conversions.specs.Convert.{toArithmeticGadget}
+use Rattle.demands.specs.Gadgets.{toArithmeticGadget}
 use Rattle.conversions.proofs.to_arithmetic.Statement.{statement}
 use Rattle.conversions.proofs.to_arithmetic.Tie as tie
 

@@ -11,7 +11,7 @@ use Rattle.masks.specs.ToModulus.{toModulus}
 use Rattle.checks.specs.Checks.{inside, firstFailing, checks}
 use Rattle.checks.proofs.CheckLaws.{Passed, all-passed, inside-out, checked-width}
 use Rattle.gate.proofs.GadgetLaws.{silent-refused, silent-ran, closed-on-copy, held, held-given}
-use Rattle.conversions.specs.Convert.{toModQGadget}
+use Rattle.demands.specs.Gadgets.{toModQGadget}
 use Rattle.conversions.proofs.to_mod_q.Statement.{statement}
 use Rattle.conversions.proofs.to_mod_q.Tie as tie
 

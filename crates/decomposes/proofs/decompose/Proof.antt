@@ -15,7 +15,7 @@ use Rattle.checks.proofs.CheckLaws.{Passed, all-passed, checked}
 use Rattle.checks.proofs.AdmitLaws.{not-admitted, Good, good}
 use Rattle.gate.proofs.GadgetLaws.{gadget-refused, gadget-ran}
 use Rattle.parts.specs.Decompose.{decompose}
-use Rattle.decomposes.specs.Decompose.{decomposeGadget}
+use Rattle.demands.specs.Gadgets.{decomposeGadget}
 use Rattle.decomposes.proofs.decompose.Statement.{statement}
 use Rattle.decomposes.proofs.decompose.Tie as tie
 

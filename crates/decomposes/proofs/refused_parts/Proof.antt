@@ -1,6 +1,5 @@
 use mathlib.Core.Path.{refl}
-use Rattle.gate.specs.Told.{refusal}
-use Rattle.decomposes.specs.Answers.{partsStandFor}
+use Rattle.gate.specs.Told.{refusal, partsStandFor}
 use Rattle.decomposes.proofs.refused_parts.Statement.{statement}
 use Rattle.decomposes.proofs.refused_parts.Tie as tie
 

@@ -2,8 +2,7 @@ use borrow.Author.Needs.{needs}
 use Rattle.held.proofs.verdict_gives.Statement.{statement}
 use Rattle.held.proofs.verdict_gives.Tie as tie
 use mathlib.Core.Path.{ap, _∙_}
-use Rattle.gate.specs.Told.{Told}
-use Rattle.judges.specs.Answers.{judgedStandsFor}
+use Rattle.gate.specs.Told.{Told, judgedStandsFor}
 use Rattle.passing.specs.Held.{held, verdictShown}
 
 verdict-requires : tie.Need-verdict-requires

@@ -1,6 +1,5 @@
 use mathlib.Core.Path.{refl}
-use Rattle.gate.specs.Told.{refusal}
-use Rattle.judges.specs.Answers.{judgedStandsFor}
+use Rattle.gate.specs.Told.{refusal, judgedStandsFor}
 use Rattle.judges.proofs.refused_verdict.Statement.{statement}
 use Rattle.judges.proofs.refused_verdict.Tie as tie
 

@@ -14,8 +14,7 @@ use Rattle.checks.proofs.CheckLaws.{both-left, Passed, all-passed, checked}
 use Rattle.checks.proofs.AdmitLaws.{not-admitted, Good, good}
 use Rattle.gate.proofs.GadgetLaws.{judge-checks, judge-refused, judge-ran}
 use Rattle.sizes.specs.Verdict.{verdict}
-use Rattle.widens.specs.Widen.{kindRange}
-use Rattle.judges.specs.Verdict.{verdictGadget}
+use Rattle.demands.specs.Gadgets.{kindRange, verdictGadget}
 use Rattle.judges.proofs.verdict.Statement.{statement}
 use Rattle.judges.proofs.verdict.Tie as tie
 

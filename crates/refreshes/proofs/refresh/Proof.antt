@@ -9,7 +9,7 @@ use Rattle.shares.specs.Sharing.{arithmetic}
 use Rattle.checks.specs.Checks.{inside, firstFailing, checks}
 use Rattle.checks.proofs.CheckLaws.{Passed, all-passed, inside-out, checked}
 use Rattle.gate.proofs.GadgetLaws.{silent-refused, silent-ran, on-copy, held}
-use Rattle.refreshes.specs.Refresh.{refreshGadget}
+use Rattle.demands.specs.Gadgets.{refreshGadget}
 use Rattle.refreshes.proofs.refresh.Statement.{statement}
 use Rattle.refreshes.proofs.refresh.Tie as tie
 

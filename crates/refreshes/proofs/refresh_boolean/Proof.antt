@@ -11,7 +11,7 @@ use Rattle.shares.specs.Sharing.{boolean}
 use Rattle.checks.specs.Checks.{inside, firstFailing, checks}
 use Rattle.checks.proofs.CheckLaws.{Passed, all-passed, inside-out, checked-width}
 use Rattle.gate.proofs.GadgetLaws.{silent-refused, silent-ran, on-copy, held}
-use Rattle.refreshes.specs.Refresh.{booleanGadget}
+use Rattle.demands.specs.Gadgets.{booleanGadget}
 use Rattle.refreshes.proofs.refresh_boolean.Statement.{statement}
 use Rattle.refreshes.proofs.refresh_boolean.Tie as tie
 

@@ -20,7 +20,7 @@ use Rattle.checks.proofs.AdmitLaws.{not-admitted, Good, good}
 use Rattle.gate.proofs.GadgetLaws.{sampler-refused, sampler-ran}
 use Rattle.masks.specs.Sampling.{coefficient}
 use Rattle.masks.proofs.SampleSteps.{drawn-held, closed}
-use Rattle.samplers.specs.Samplers.{sampler}
+use Rattle.demands.specs.Gadgets.{sampler}
 use Rattle.samplers.proofs.sample.Statement.{statement}
 use Rattle.samplers.proofs.sample.Tie as tie
 

@@ -13,7 +13,7 @@ use Rattle.checks.proofs.CheckLaws.{AllPassed, all-checked, range-checked}
 use Rattle.checks.proofs.AdmitLaws.{not-admitted, Good, good}
 use Rattle.gate.proofs.GadgetLaws.{sampler-refused, sampler-ran}
 use Rattle.masks.specs.Polynomial.{polynomial}
-use Rattle.samplers.specs.Samplers.{polynomialSampler}
+use Rattle.demands.specs.Gadgets.{polynomialSampler}
 use Rattle.samplers.proofs.sample_polynomial.Statement.{statement}
 use Rattle.samplers.proofs.sample_polynomial.Tie as tie
 

@@ -9,8 +9,8 @@ use Rattle.halves.specs.Shift.{shift}
 use Rattle.checks.specs.Checks.{firstFailing, checks}
 use Rattle.checks.proofs.CheckLaws.{Passed, all-passed, checked}
 use Rattle.gate.proofs.GadgetLaws.{silent-refused, silent-ran, closed-on-copy, held, held-given}
-use Rattle.shifts.specs.Shift.{shiftRange, shiftGadget}
-use Rattle.shifts.proofs.RangeLaws.{shift-range-out, whole-power, whole-least}
+use Rattle.demands.specs.Gadgets.{shiftRange, shiftGadget}
+use Rattle.demands.proofs.RangeLaws.{shift-range-out, whole-power, whole-least}
 use Rattle.shifts.proofs.shift.Statement.{statement}
 use Rattle.shifts.proofs.shift.Tie as tie
 

@@ -6,7 +6,7 @@ use lib.Pow.{pow-pos}
 use borrow.Author.Tests.{eq-eqb, ne-eqb, not-true, not-false}
 use Rattle.checks.specs.Checks.{inside}
 use Rattle.checks.proofs.CheckLaws.{inside-out}
-use Rattle.shifts.proofs.RangeLaws.{shift-range-word}
+use Rattle.demands.proofs.RangeLaws.{shift-range-word}
 use Rattle.shifts.proofs.shift_range.Statement.{statement}
 use Rattle.shifts.proofs.shift_range.Tie as tie
 

@@ -10,7 +10,7 @@ use Rattle.halves.specs.ToBoolean.{toBoolean}
 use Rattle.checks.specs.Checks.{inside, firstFailing, checks}
 use Rattle.checks.proofs.CheckLaws.{Passed, all-passed, inside-out, checked-width}
 use Rattle.gate.proofs.GadgetLaws.{silent-refused, silent-ran, closed-on-copy, held, held-given}
-use Rattle.shifts.specs.Shift.{toBooleanGadget}
+use Rattle.demands.specs.Gadgets.{toBooleanGadget}
 use Rattle.shifts.proofs.to_boolean.Statement.{statement}
 use Rattle.shifts.proofs.to_boolean.Tie as tie
 

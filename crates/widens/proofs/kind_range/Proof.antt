@@ -4,7 +4,7 @@ use mathlib.Core.Bool.{Bool}
 use borrow.Author.Tests.{not-true, not-false}
 use Rattle.numbers.specs.Tests.{both}
 use Rattle.checks.specs.Checks.{inside}
-use Rattle.widens.specs.Widen.{kindRange}
+use Rattle.demands.specs.Gadgets.{kindRange}
 use Rattle.widens.proofs.kind_range.Statement.{statement}
 use Rattle.widens.proofs.kind_range.Tie as tie
 

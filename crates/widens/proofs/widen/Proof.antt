@@ -15,7 +15,7 @@ use Rattle.checks.proofs.CheckLaws.{both-left, Passed, all-passed, checked}
 use Rattle.checks.proofs.AdmitLaws.{not-admitted, Good, good}
 use Rattle.gate.proofs.GadgetLaws.{silent-refused, silent-ran}
 use Rattle.sizes.specs.Widening.{widened, widen}
-use Rattle.widens.specs.Widen.{kindRange, widenGadget}
+use Rattle.demands.specs.Gadgets.{kindRange, widenGadget}
 use Rattle.widens.proofs.widen.Statement.{statement}
 use Rattle.widens.proofs.widen.Tie as tie
 

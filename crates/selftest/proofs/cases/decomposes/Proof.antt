@@ -5,7 +5,7 @@ use mathlib.Core.Path.{ap, _∙_}
 use mathlib.Core.List.{List, [], _∷_}
 use Prim.Native.Nat.{ℕ}
 use Rattle.gate.specs.Gadget.{tells}
-use Rattle.decomposes.specs.Decompose.{decomposeGadget}
+use Rattle.demands.specs.Gadgets.{decomposeGadget}
 use Rattle.passing.specs.Held.{sevens, held, partsShown}
 
 small-tape-requires : tie.Need-small-tape-requires

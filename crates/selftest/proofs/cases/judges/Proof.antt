@@ -5,7 +5,7 @@ use mathlib.Core.Path.{ap, _∙_}
 use mathlib.Core.List.{List, [], _∷_}
 use Prim.Native.Nat.{ℕ}
 use Rattle.gate.specs.Judge.{judges}
-use Rattle.judges.specs.Verdict.{verdictGadget}
+use Rattle.demands.specs.Gadgets.{verdictGadget}
 use Rattle.passing.specs.Held.{held, verdictShown}
 
 small-tape-requires : tie.Need-small-tape-requires

@@ -10,7 +10,7 @@ use borrow.Author.Tests.{le-leb, leb-true, eq-eqb, eqb-true}
 use Rattle.numbers.specs.Tests.{both}
 use Rattle.checks.specs.Checks.{inside}
 use Rattle.checks.proofs.CheckLaws.{both-left, both-right, inside-yes, inside-out}
-use Rattle.shifts.specs.Shift.{shiftRange}
+use Rattle.demands.specs.Gadgets.{shiftRange}
 
 abbrev pub ShiftRange : ℕ → ℕ → Type 0
 ShiftRange M t = (M ≤ 4294967295) × ((1 ≤ t) × (t ≤ 31)) × (M % 2 ^ t ≡ 0) × (2 ≤ M / 2 ^ t)

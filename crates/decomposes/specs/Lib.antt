@@ -1,2 +1,0 @@
-pub mod Decompose
-pub mod Answers
