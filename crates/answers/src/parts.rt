@@ -1,5 +1,5 @@
 // Decompose, set 44, in shares.
-use gadgets::decompose;
+use decomposes::decompose;
 use inputs::share;
 use trials::fill;
 use trials::low;

@@ -1,9 +1,9 @@
 // The verdict on shares of a residue.
 use aims::accepted_below;
 use aims::reach;
-use gadgets::Judged;
-use gadgets::verdict;
+use gate::Judged;
 use inputs::share;
+use judges::verdict;
 use pairs::Pair;
 use trials::fill;
 use trials::low;

@@ -2,21 +2,21 @@
 mod far;
 mod notes;
 
+use conversions::to_arithmetic;
+use conversions::to_mod_q;
 pub use far::all_counts;
-use gadgets::Answer;
-use gadgets::refresh;
-use gadgets::refresh_boolean;
-use gadgets::sample;
-use gadgets::sample_polynomial;
-use gadgets::shift;
-use gadgets::to_arithmetic;
-use gadgets::to_boolean;
-use gadgets::to_mod_q;
-use gadgets::widen;
+use gate::Answer;
 pub use notes::noted;
 pub use notes::noted_parts;
 pub use notes::noted_verdict;
 use pairs::Pair;
+use refreshes::refresh;
+use refreshes::refresh_boolean;
+use samplers::sample;
+use samplers::sample_polynomial;
+use shifts::shift;
+use shifts::to_boolean;
+use widens::widen;
 
 // What is kept of the answers: how often each number came, and a checksum.
 pub struct Tally {

@@ -1,8 +1,8 @@
 // What an answer adds to what is kept.
 use super::Tally;
-use gadgets::Answer;
-use gadgets::Decomposed;
-use gadgets::Judged;
+use gate::Answer;
+use gate::Decomposed;
+use gate::Judged;
 use trials::low;
 use trials::mix;
 

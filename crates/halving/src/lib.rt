@@ -3,7 +3,6 @@
 // registers. A single store just before the array is copied costs more than the arithmetic.
 mod parity;
 mod steps;
-mod two;
 
+pub use parity::joined;
 pub use steps::halve;
-pub use two::halve_two;

@@ -1,13 +1,13 @@
 // One case of the self test: a call of a public gadget, and whether it told what is wanted; of Boolean to arithmetic its steps, and what they gave.
 use convert::to_arithmetic;
-use gadgets::decompose;
-use gadgets::refresh;
-use gadgets::sample;
-use gadgets::shift;
-use gadgets::to_boolean;
-use gadgets::verdict;
+use decomposes::decompose;
+use judges::verdict;
 use params::Params;
+use refreshes::refresh;
+use samplers::sample;
 use shares::close;
+use shifts::shift;
+use shifts::to_boolean;
 use tape::Cursor;
 use words::power;
 use words::reduce_q;

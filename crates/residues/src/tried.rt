@@ -2,7 +2,7 @@
 use super::plain::Parts;
 use super::plain::decomposed;
 use super::plain::minus;
-use gadgets::decompose;
+use decomposes::decompose;
 use trials::fill;
 use trials::mix;
 use trials::recombined;

@@ -4,9 +4,9 @@ use calls::call;
 use calls::noted;
 use calls::noted_parts;
 use calls::noted_verdict;
-use gadgets::decompose;
-use gadgets::verdict;
+use decomposes::decompose;
 use inputs::less;
+use judges::verdict;
 use pairs::Pair;
 
 // One call, on an output slice that holds 7 in every word. The verdict has none.

@@ -2,10 +2,10 @@
 use params::Params;
 use words::power;
 ghost use mathlib.Core.Path.{_≡_};
-ghost use Prim.Native.Nat.{_^_, _≤_, _<_};
+ghost use Prim.Native.Nat.{_^_, _≤_};
 ghost use Rattle.numbers.specs.Lists.{Words};
 ghost use Rattle.halves.specs.ToBoolean.{withBit};
-ghost use Rattle.halves.specs.Halvings.{gathered, gatheredWord};
+ghost use Rattle.halves.specs.Halvings.{gathered};
 
 // Bit b of each word, from the parities of the arithmetic shares.
 pub fn with_bit(
@@ -37,15 +37,4 @@ pub fn gathered(
         return with_bit(words, shares, b);
     }
     words
-}
-
-// The same of one word.
-pub fn gathered_word(gathers: bool, word: u32, share: u32, b: u32) -> u32
-    requires { ⌜ (b ≤ 30) × (word < 2 ^ b) ⌝ }
-    ensures { λ r. ⌜ r ≡ gatheredWord gathers b share word ⌝ }
-{
-    if gathers {
-        return word + power(b) * (share % 2);
-    }
-    word
 }

@@ -1,10 +1,10 @@
 // The shift by t, from 2^t·m to m, and arithmetic shares mod 2^k to Boolean ones of width k, with a halving between bits. Both are one loop of
 // halvings, which gathers bits or not: with a loop for each, `halve` has two callers, and the compiler makes a call of it, with the words copied around.
 use super::many::of_many;
-use super::two::of_two;
 use params::Params;
 use shares::Shared;
 use tape::Cursor;
+use two::of_two;
 ghost use Prim.Native.Nat.{_*_, _^_, _≤_, _<_};
 ghost use lib.ListN.{take};
 ghost use Rattle.draws.specs.Draws.{run};

@@ -2,7 +2,6 @@
 mod bits;
 mod halvings;
 mod many;
-mod two;
 
 pub use halvings::shift_by;
 pub use halvings::to_boolean;

@@ -1,7 +1,7 @@
 use borrow.Author.Needs.{needs}
 use Prim.Native.Nat.{_≤_, _-_}
-use Rattle.cases.proofs.all_sizes.Statement.{statement}
-use Rattle.cases.proofs.all_sizes.Tie as tie
+use Rattle.shown.proofs.all_sizes.Statement.{statement}
+use Rattle.shown.proofs.all_sizes.Tie as tie
 
 abbrev Inv-loop : tie.InvT-loop
 Inv-loop i₀ i = i ≤ 42

@@ -1,7 +1,7 @@
 use borrow.Author.Needs.{needs}
 use Prim.Native.Nat.{_≤_, _-_}
-use Rattle.cases.proofs.sizes.Statement.{statement}
-use Rattle.cases.proofs.sizes.Tie as tie
+use Rattle.shown.proofs.sizes.Statement.{statement}
+use Rattle.shown.proofs.sizes.Tie as tie
 
 abbrev Inv-loop : tie.InvT-loop
 Inv-loop p n i₀ i = (n ≤ 8) × (i ≤ 4)

@@ -2,8 +2,8 @@ use borrow.Author.Needs.{needs}
 use mathlib.Core.Path.{_≡_}
 use Prim.Native.Nat.{_≤_, _-_}
 use lib.ListN.{length}
-use Rattle.cases.proofs.shared_lines.Statement.{statement}
-use Rattle.cases.proofs.shared_lines.Tie as tie
+use Rattle.shown.proofs.shared_lines.Statement.{statement}
+use Rattle.shown.proofs.shared_lines.Tie as tie
 
 abbrev Inv-loop : tie.InvT-loop
 Inv-loop gadget residues n i₀ i-end i = (n ≤ 8) × (i-end ≡ length residues) × (i ≤ i-end)

@@ -9,8 +9,8 @@ use Rattle.shares.proofs.ArraysLaws.{cut-off}
 use Rattle.halves.specs.AtOnce.{joined}
 use Rattle.halves.proofs.ParityLaws.{joined-below}
 use Rattle.halves.proofs.TwoLaws.{two-ended, two-gave}
-use Rattle.halving.proofs.two.halve_two.Statement.{statement}
-use Rattle.halving.proofs.two.halve_two.Tie as tie
+use Rattle.two.proofs.halve_two.Statement.{statement}
+use Rattle.two.proofs.halve_two.Tie as tie
 
 -- what is added, subtracted or joined modulo 2m is below it
 add-below : (m a b : ℕ) {r : ℕ} → a < 2 * m → b < 2 * m → r ≡ addMod (2 * m) a b → r < 2 * m

@@ -12,8 +12,8 @@ use Rattle.draws.specs.Draws.{run}
 use Rattle.shares.proofs.ArraysLaws.{gave, stopped, whole, cut-off}
 use Rattle.halves.specs.Halvings.{halvings}
 use Rattle.halves.proofs.HalvingsLaws.{Halved, gathered-two, take-two, words-two, words-eight, halved-fits, halved-start, halved-bits, halved-words, halved-gathered-words, halved-shares, halved-gathered, halved-held, halved-ended, halved-more}
-use Rattle.shift.proofs.two.of_two.Statement.{statement}
-use Rattle.shift.proofs.two.of_two.Tie as tie
+use Rattle.two.proofs.of_two.Statement.{statement}
+use Rattle.two.proofs.of_two.Tie as tie
 
 abbrev Inv-loop : tie.InvT-loop
 Inv-loop x y m t gathers tape first₀ second₀ u₀ v₀ modulus₀ cur₀ b₀ first second u v modulus cur b =

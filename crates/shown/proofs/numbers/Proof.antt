@@ -2,8 +2,8 @@ use borrow.Author.Needs.{needs}
 use mathlib.Core.Path.{_≡_}
 use Prim.Native.Nat.{_≤_, _-_}
 use lib.ListN.{length}
-use Rattle.cases.proofs.numbers.Statement.{statement}
-use Rattle.cases.proofs.numbers.Tie as tie
+use Rattle.shown.proofs.numbers.Statement.{statement}
+use Rattle.shown.proofs.numbers.Tie as tie
 
 abbrev Inv-loop : tie.InvT-loop
 Inv-loop words i₀ i-end i = (i-end ≡ length words) × (i ≤ i-end)

@@ -1,7 +1,7 @@
 use borrow.Author.Needs.{needs}
 use Prim.Native.Nat.{_≤_, _-_}
-use Rattle.cases.proofs.shared_by_hand.Statement.{statement}
-use Rattle.cases.proofs.shared_by_hand.Tie as tie
+use Rattle.shown.proofs.shared_by_hand.Statement.{statement}
+use Rattle.shown.proofs.shared_by_hand.Tie as tie
 
 abbrev Inv-loop : tie.InvT-loop
 Inv-loop gadget residues n₀ n = n ≤ 9

@@ -2,8 +2,8 @@ use borrow.Author.Needs.{needs}
 use Prim.Native.Nat.{_+_, _*_, _%_, _^_, _<_}
 use native.Mathlib.Omega.{arith}
 use Rattle.halves.proofs.BitLaws.{bit-fits}
-use Rattle.shift.proofs.bits.gathered_word.Statement.{statement}
-use Rattle.shift.proofs.bits.gathered_word.Tie as tie
+use Rattle.two.proofs.gathered_word.Statement.{statement}
+use Rattle.two.proofs.gathered_word.Tie as tie
 
 fits : (c : tie.After-power) → let a = c .before .before .args in a .word + c .power .result * (a .share % 2) < 2 ^ 32
 fits c = let s = c .before .before in bit-fits (s .args .share) (s .pre .0) (c .power .ensures) (s .pre .1)
