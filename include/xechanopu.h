@@ -201,7 +201,6 @@ xe_judged xe_verdict(const uint32_t *shares, size_t n, const uint32_t *tape, siz
  * Runs cases worked by hand; call it at power-on, before any other function. Answers 0, or the number of the
  * first case that came out wrong. On a machine that keeps the language's rules it is proved to answer 0, so
  * anything else is a fault of the hardware or of the build: use no gadget then. It takes some 6 kB of stack.
- * A compiler may work out cases 1 to 3, 7 and 23 to 25 by itself, and leave no code of them.
  *
  *    1, 2   two draws below q                    12 .. 16  Decompose, set 44
  *    3      Psi, in a conversion                 17 .. 21  verdicts, set 44, kind 1

@@ -1,1 +1,1 @@
-// No code: the three demands. Statements are in specs/, theorems in proofs/.
+// No code: the public gadgets, in specs/Gadgets.antt, and the three demands of them. Statements are in specs/, theorems in proofs/.

@@ -43,11 +43,22 @@ fn held(wanted: [u32; 4], number: u32, used: usize, third: u32, fourth: u32) -> 
     fourth == wanted[3]
 }
 
+// 0, the number that a shift answers. The compiler cannot know it. A case so small that it would be worked out when the library is built is made to
+// depend on it, so that something is left for the device to run.
+fn unknown_zero() -> u32
+    ensures { λ r. ⌜ r ≡ 0 ⌝ }
+{
+    let mut out = [7u32; 2];
+    let told = shift(&[7, 8], &[3, 4], 10, 1, &mut out);
+    told.number
+}
+
 pub fn refresh_gives(shares: &[u32], tape: &[u32], modulus: u32, wanted: [u32; 4]) -> bool
     ensures { λ r. ⌜ r ≡ held wanted (sharesShown (tells (refreshGadget modulus) (now (shares .entry)) (now (tape .entry)) sevens)) ⌝ }
 {
     let mut out = [7u32; 2];
-    let told = refresh(shares, tape, modulus, &mut out);
+    let n = shares.len() + unknown_zero() as usize - unknown_zero() as usize;
+    let told = refresh(&shares[..n], tape, modulus, &mut out);
     held(wanted, told.number, told.used, out[0], out[1])
 }
 
@@ -70,8 +81,9 @@ pub fn to_arithmetic_gives(
     requires { ⌜ (k ≤ 31) × Held 8 2 (2 ^ k) shares ⌝ }
     ensures { λ r. ⌜ r ≡ stepsHeld wanted (run (bind (toArithmetic k (take 2 shares)) (refresh (arithmetic (2 ^ k)))) (now (tape .entry)) start) ⌝ }
 {
-    let s = to_arithmetic(shares, 2, k, Cursor::start(), tape);
-    let closed = close(s, 2, power(k), tape);
+    let width = k + unknown_zero();
+    let s = to_arithmetic(shares, 2, width, Cursor::start(), tape);
+    let closed = close(s, 2, power(width), tape);
     if !closed.ok {
         return false;
     }

@@ -1,1 +1,1 @@
-// No code: modulus switching, and the masks that are sampled by it, as document 01 has them. Definitions are in specs/, laws in proofs/.
+// No code: modulus switching, and the masks that are sampled by it. Definitions, as document 01 has them, are in specs/, laws in proofs/.

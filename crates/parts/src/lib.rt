@@ -1,1 +1,1 @@
-// No code: Decompose, as document 01 has them. Definitions are in specs/, laws in proofs/.
+// No code: Decompose. Definitions, as document 01 and FIPS 204 have them, are in specs/, laws in proofs/.

@@ -1,1 +1,1 @@
-// No code: Boolean shares to arithmetic ones, as document 01 has them. Definitions are in specs/, laws in proofs/.
+// No code: Boolean shares to arithmetic ones. Definitions, as document 01 has them, are in specs/, laws in proofs/.

@@ -1,1 +1,1 @@
-// No code: widening, the product, the zero test, and the verdict, as document 01 has them. Definitions are in specs/, laws in proofs/.
+// No code: widening, the product, the zero test, and the verdict. Definitions, as document 01 has them, are in specs/, laws in proofs/.

@@ -1,6 +1,7 @@
 use borrow.Author.Needs.{needs}
-use mathlib.Core.Path.{ap₂, _∙_}
-use Prim.Native.Nat.{ℕ, _^_}
+use mathlib.Core.Path.{_≡_, ap, ap₂, _∙_}
+use Prim.Native.Nat.{ℕ, _+_, _^_}
+use native.Mathlib.Omega.{arith}
 use lib.ListN.{take}
 use denote.Ref.{now}
 use Rattle.tape.specs.declared.Cursor.{Cursor}
@@ -15,29 +16,43 @@ use Rattle.held.proofs.HeldLaws.{steps-none, steps-gave}
 use Rattle.held.proofs.to_arithmetic_gives.Statement.{statement}
 use Rattle.held.proofs.to_arithmetic_gives.Tie as tie
 
+-- the width is the one that is asked for
+same : (c : tie.After-unknown-zero) → let k = c .before .before .args .k in k + c .unknown-zero .result ≡ k
+same c = omega (arith, c .unknown-zero .ensures)
+
 -- the conversion and the refresh, as one program
 both : (c : tie.After-close) → let p = c .before in
-    let t = p .before in
-    let a = t .before .before .before .args in
+    let a = p .before .before .before .before .before .args in
     Gave 2 (p .power .result) (c .close .result) (run (bind (toArithmetic (a .k) (take 2 (a .shares))) (refresh (arithmetic (2 ^ a .k)))) (now (a .tape)) start)
 both c = let p = c .before in
     let t = p .before in
-    let a = t .before .before .before .args in
+    let u = t .before .before in
+    let a = u .before .before .args in
+    let w = a .k + u .unknown-zero .result in
     given-as (c .close .ensures)
-    (followed (toArithmetic (a .k) (take 2 (a .shares))) (refresh (arithmetic (p .power .result))) (now (a .tape)) _ (t .to-arithmetic .ensures)
-    ∙ ap₂ (λ (m : ℕ) (q : Cursor). run (bind (toArithmetic (a .k) (take 2 (a .shares))) (refresh (arithmetic m))) (now (a .tape)) q) (p .power .ensures) (t .before .start .ensures))
+    (followed (toArithmetic w (take 2 (a .shares))) (refresh (arithmetic (p .power .result))) (now (a .tape)) _ (t .to-arithmetic .ensures)
+    ∙ ap₂ (λ (m : ℕ) (q : Cursor). run (bind (toArithmetic w (take 2 (a .shares))) (refresh (arithmetic m))) (now (a .tape)) q) (p .power .ensures) (t .before .start .ensures)
+    ∙ ap (λ (k : ℕ). run (bind (toArithmetic k (take 2 (a .shares))) (refresh (arithmetic (2 ^ k)))) (now (a .tape)) start) (same u))
+
+unknown-zero-requires : tie.Need-unknown-zero-requires
+unknown-zero-requires c κs = search needs
+
+add-width : tie.Need-add-width
+add-width c = search needs
 
 start-requires : tie.Need-start-requires
 start-requires c κs = search needs
 
 to-arithmetic-requires : tie.Need-to-arithmetic-requires
-to-arithmetic-requires c κs = search needs
+to-arithmetic-requires c κs = let u = c .before in rw (same u) (u .before .before .pre)
 
 power-requires : tie.Need-power-requires
 power-requires c κs = search needs
 
 close-requires : tie.Need-close-requires
-close-requires c κs = let t = c .before in λ ok. rw (c .power .ensures) (held-of (t .before .before .before .pre .1) (t .to-arithmetic .ensures .below ok))
+close-requires c κs = let t = c .before in
+    let u = t .before .before in
+    λ ok. rw (c .power .ensures) (held-of {words = u .before .before .args .shares} (rw (same u) (u .before .before .pre .1)) (t .to-arithmetic .ensures .below ok))
 
 returns : tie.Need-returns
 returns c = steps-none _ (stopped (both (c .before)) (c .if1 .taken))
@@ -58,6 +73,8 @@ pub to-arithmetic-gives-spec : {M : Type 1} → statement M
 to-arithmetic-gives-spec =
     tie.close
     (tie.spec
+    unknown-zero-requires
+    add-width
     start-requires
     to-arithmetic-requires
     power-requires
