@@ -19,10 +19,6 @@ use Rattle.first.proofs.FirstLaws.{added-take, added-words}
 use Rattle.halves.specs.Carries.{floors, raised, without}
 
 -- ---- c·e_i taken off each share
-pub without-take : (M c n : ℕ) (es xs : List ℕ) → take n (without M c es xs) ≡ without M c (take n es) (take n xs)
-unfolding without
-without-take M c n es xs = take-along _ _ n xs (λ i x l. ap (λ (e : ℕ). subMod M x (c * e)) (sym (getD-take n es i 0 l)))
-
 pub without-words : {n N : ℕ} (M c : ℕ) (es : List ℕ) {xs : List ℕ} → 0 < M → Words n N xs → Words n M (without M c es xs)
 unfolding without subMod
 without-words M c es h w = words-along _ w (λ i x l b. mod-lt _ h)

@@ -1,24 +1,20 @@
 -- The parities moved one after another: which shares that gives, that it is the same as all at once, that the value is kept, and that all shares but the last are then even.
 use mathlib.Core.Path.{_≡_, refl, sym, ap, ap₂, _∙_}
-use mathlib.Core.Bool.{Bool, true, false}
 use mathlib.Core.List.{List}
 use Prim.Native.Nat.{ℕ, zero, suc, _+_, _-_, _≤_, _<_}
 use native.Mathlib.Nat.{not-suc-le-zero}
 use native.Mathlib.Numerals.{add-one}
 use native.Mathlib.Omega.{arith}
 use native.Mathlib.Decide.{ℕ-discrete}
-use lib.ListN.{length, getD, take}
-use lib.Seq.{getD-take, length-take-le}
+use lib.ListN.{length, getD}
 use lib.Dec.{eqb}
 use borrow.Author.Tests.{eq-eqb, ne-eqb}
 use Rattle.numbers.specs.Tests.{pick}
 use Rattle.numbers.specs.Modulo.{addMod, subMod}
 use Rattle.numbers.specs.Lists.{Words, along, over}
-use Rattle.numbers.proofs.GroupLaws.{sums}
-use Rattle.numbers.proofs.AlongLaws.{along-at, along-is, take-along, words-along, over-more}
+use Rattle.numbers.proofs.AlongLaws.{along-at, along-is, over-more}
 use Rattle.words.proofs.WordLaws.{sub-low}
 use Rattle.shares.specs.Sharing.{arithmetic, move}
-use Rattle.shares.specs.Arrays.{Held}
 use Rattle.shares.proofs.SharingLaws.{Shares}
 use Rattle.shares.proofs.MoveLaws.{move-length, move-to, move-from, move-other, move-keeps}
 use Rattle.halves.specs.Halving.{parity, moveParity, evened}

@@ -10,7 +10,7 @@ use borrow.Author.Tests.{eq-eqb, ne-eqb}
 use Rattle.numbers.specs.Modulo.{addMod, subMod}
 use Rattle.numbers.specs.Lists.{Words, along, over}
 use Rattle.numbers.proofs.GroupLaws.{sums}
-use Rattle.numbers.proofs.WordsLaws.{words-set, words-same}
+use Rattle.numbers.proofs.WordsLaws.{words-set}
 use Rattle.numbers.proofs.AlongLaws.{length-along, along-at, along-is, over-more}
 use Rattle.halves.specs.Halving.{parity, less, evened, halves}
 use Rattle.halves.proofs.EvenLaws.{gathered, settled, evened-is}

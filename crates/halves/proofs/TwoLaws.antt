@@ -1,5 +1,5 @@
 -- Laws of the halving of two shares: its one draw, and what it gives.
-use mathlib.Core.Path.{_≡_, refl, sym, ap, ap₂, _∙_}
+use mathlib.Core.Path.{_≡_, refl, sym, ap, _∙_}
 use mathlib.Core.Bool.{true}
 use mathlib.Core.List.{List, [], _∷_}
 use Prim.Native.Nat.{ℕ, _-_, _*_, _/_, _<_}
@@ -7,7 +7,6 @@ use native.Mathlib.Omega.{arith}
 use lib.ListN.{replicate}
 use Rattle.numbers.specs.Modulo.{addMod, subMod}
 use Rattle.numbers.specs.Lists.{along, change, over}
-use Rattle.numbers.proofs.GroupLaws.{sums}
 use Rattle.numbers.proofs.WordsLaws.{words-cons, words-same}
 use Rattle.words.proofs.WordLaws.{sub-low}
 use Rattle.tape.specs.declared.Cursor.{Cursor}

@@ -7,7 +7,7 @@ use native.Mathlib.Numerals.{add-one}
 use native.Mathlib.Omega.{arith}
 use native.Mathlib.Decide.{decLt, ℕ-discrete}
 use lib.ListN.{length, getD, set, take, length-set, length-take}
-use lib.Seq.{length-take-le, getD-set-same, getD-set-other, getD-take, ext-getD}
+use lib.Seq.{getD-set-same, getD-set-other, getD-take, ext-getD}
 use lib.Dec.{eqb}
 use borrow.Author.Tests.{ne-eqb}
 use Rattle.numbers.specs.Tests.{pick}
@@ -92,14 +92,6 @@ module _ {size : ℕ} {f : ℕ → ℕ → ℕ} {xs : List ℕ} {i : ℕ} {ys : 
   -- the end of the loop
   pub along-all : size ≤ i → ys ≡ along f xs
   along-all h = along-is f xs ys (a .kept ∙ sym (a .whole)) (λ j l. a .before j (omega (arith, a .whole)))
-
-  -- and of one that stops at i
-  pub along-front : take i ys ≡ along f (take i xs)
-  along-front =
-      let ly : length (take i ys) ≡ i = length-take-le i ys (omega (arith, a .most, a .kept)) in
-      let lx : length (take i xs) ≡ i = length-take-le i xs (omega (arith, a .most, a .whole)) in
-      along-is f (take i xs) (take i ys) (ly ∙ sym lx)
-      (λ j l. let h : j < i = omega arith in getD-take i ys j 0 h ∙ a .before j h ∙ ap (f j) (sym (getD-take i xs j 0 h)))
 
   -- words below M, if f keeps them so
   pub along-below : {M : ℕ} → Words size M xs → ((j x : ℕ) → x < M → f j x < M) → Words size M ys
