@@ -45,7 +45,7 @@ module _ (a : Answer) (out left : List ℕ) (x : Ran (List ℕ)) (e : standsFor 
 
 module _ (p : Params) (xs tape : List ℕ) (c : Cursor) where
   -- closed, Decompose is the high part and then the refresh of the low shares
-  closed-is : closed (arithmetic q) (decompose p xs) ≡ bind (highPart p xs) (λ high. bind (refresh (arithmetic q) (lowShares p high xs)) (λ zs. done (record { opened = high ∷ []; shares = zs })))
+  closed-is : closed (arithmetic q) (decompose p xs) ≡ bind (highPart p xs) (λ high. bind (refresh (arithmetic q) (lowShares p high xs)) (λ zs. done (record { others = high ∷ []; shares = zs })))
   unfolding closed decompose bind
   closed-is = bind-assoc (highPart p xs) _ _
 

@@ -35,7 +35,7 @@ pub record Answers (c : CallClaim) : Type 0 where
   -- the program makes the claimed draws, and its outcome is as claimed
   pub planned : Valid c → Plan (c .call .program) (c .plan)
   pub right : Valid c → (tape : List ℕ) {o : Outcome} {p : Cursor} → run (c .call .program) tape start ≡ ran o p → c .Right tape p o
-  pub fields : (tape : List ℕ) (p : Cursor) (o : Outcome) → c .Right tape p o → length (o .opened) ≡ c .fields
+  pub fields : (tape : List ℕ) (p : Cursor) (o : Outcome) → c .Right tape p o → length (o .others) ≡ c .fields
 
 -- a check of parameters, and what it says of them
 pub record Tested (inRange : Bool) (InRange : Type 0) : Type 0 where

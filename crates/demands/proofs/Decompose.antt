@@ -59,7 +59,7 @@ decompose-demands set = demands (decompose-steps set)
 pub decompose-unique : (set : ℕ) (shares tape out : List ℕ) → Unique partsStandFor (tells (decomposeGadget set) shares tape out)
 unfolding partsStandFor
 decompose-unique set shares tape out =
-    unique-by partsStandFor (λ t. record { number = t .number; high = getD (t .opened) 0 0; used = t .used }) (λ t. t .out) (λ r filled. refl) (λ r filled. refl)
+    unique-by partsStandFor (λ t. record { number = t .number; high = getD (t .others) 0 0; used = t .used }) (λ t. t .out) (λ r filled. refl) (λ r filled. refl)
     (tells (decomposeGadget set) shares tape out)
 
 -- (23 + α)·d² + 2d draws a call, for d = n - 1

@@ -12,7 +12,7 @@ use Rattle.gate.proofs.GadgetLaws.{tells-passed, tells-refused}
 
 -- what is told where the run came to its end
 abbrev pub success : Outcome → Cursor → Told
-success o p = record { number = 0; opened = o .opened; used = p .at; out = o .shares }
+success o p = record { number = 0; others = o .others; used = p .at; out = o .shares }
 
 module _ (c : Call) (tape : List ℕ) where
   pub tells-success : {o : Outcome} {p : Cursor} → checkNumber c ≡ 0 → run (c .program) tape start ≡ ran o p → told c tape ≡ success o p

@@ -1,14 +1,14 @@
 -- Both samplers meet demands 1 and 2, their answers are unique, and how many draws they make.
 use mathlib.Core.Path.{_≡_, refl, ap₂, _∙_}
 use mathlib.Core.List.{List, [], _++_}
-use Prim.Native.Nat.{ℕ, zero, suc, _+_, _-_, _*_, _^_, _≤_, _<_}
+use Prim.Native.Nat.{ℕ, _+_, _-_, _*_, _^_, _≤_, _<_}
 use native.Mathlib.Omega.{arith}
 use lib.ListN.{length, length-append, length-replicate}
 use Rattle.numbers.specs.Bits.{alpha}
-use Rattle.numbers.specs.Lists.{over}
 use Rattle.params.specs.Sets.{Known, paramsOf}
 use Rattle.params.proofs.RoomLaws.{alpha-most, mask-most}
 use Rattle.params.proofs.SetLaws.{set-laws}
+use Rattle.draws.proofs.PlanLaws.{repeated-length}
 use Rattle.gate.specs.Told.{standsFor}
 use Rattle.gate.specs.Sampler.{samples}
 use Rattle.masks.specs.Sampling.{maskPlan, coefficientPlan}
@@ -75,9 +75,5 @@ sample-call-draws set n h =
     length-append (maskPlan (paramsOf set) n) (plan (toModQClaim μ) n) ∙ ap₂ _+_ (length-replicate n (2 ^ μ)) (to-mod-q-call-draws μ n h) ∙ omega arith
 
 pub sample-polynomial-call-draws : (set n : ℕ) → length (polynomialPlan (paramsOf set) n) ≡ 256 * length (coefficientPlan (paramsOf set) n)
-unfolding polynomialPlan over
-sample-polynomial-call-draws set n = go 256
-  where
-    go : (k : ℕ) → length (over (λ c ms. coefficientPlan (paramsOf set) n ++ ms) k []) ≡ k * length (coefficientPlan (paramsOf set) n)
-    go zero = omega arith
-    go (suc k) = length-append (coefficientPlan (paramsOf set) n) _ ∙ rw (go k) (omega arith)
+unfolding polynomialPlan
+sample-polynomial-call-draws set n = repeated-length 256 (coefficientPlan (paramsOf set) n)

@@ -54,7 +54,7 @@ on-stated {c} s n out =
           let (xs, t, x, y) = bind-parts (c .sampler .steps n out) (λ ys. done (silent ys)) tape start e in
           let f : silent xs ≡ o = cc in
           let g : t ≡ p = cc in
-          subst₂ (λ (r : Outcome) (u : Cursor). c .Fills n tape u (r .shares) × (r .opened ≡ [])) f g
+          subst₂ (λ (r : Outcome) (u : Cursor). c .Fills n tape u (r .shares) × (r .others ≡ [])) f g
           (s .fills (v .range) n (v .count .0) (v .count .1) tape out (v .room) x, refl);
       fields = λ tape p o r. ap length (r .1);
     }

@@ -46,19 +46,19 @@ same-bits : bitsOf (q - 1) ≡ bitsOf q
 unfolding bitsOf leadingZeros
 same-bits = refl
 
-opened-below : (k : Bounds) (n : ℕ) (z : ℤ) (rs : List ℕ) → openedOf k n z rs < q
+opened-below : (bounds : Bounds) (n : ℕ) (z : ℤ) (rs : List ℕ) → openedOf bounds n z rs < q
 unfolding openedOf
-opened-below k n z rs = mod-lt _ (omega arith)
+opened-below bounds n z rs = mod-lt _ (omega arith)
 
 module _ (set kind : ℕ) (shares tape : List ℕ) (x : Succeeded (judgeCall (verdictGadget set kind) shares) tape) (second : List ℕ) (v : Valid (verdictClaim set kind second))
     (same : length second ≡ length shares) (within : Within (kindOf set kind) shares) (within-second : Within (kindOf set kind) second) where
-  abbrev k : Bounds
-  k = kindOf set kind
+  abbrev bounds : Bounds
+  bounds = kindOf set kind
 
   abbrev n : ℕ
   n = length shares
 
-  laws : KindLaws k
+  laws : KindLaws bounds
   laws = laws-of kind (v .range .0)
 
   first-valid : Valid (verdictClaim set kind shares)
@@ -70,17 +70,17 @@ module _ (set kind : ℕ) (shares tape : List ℕ) (x : Succeeded (judgeCall (ve
   second-shares : Shares (arithmetic q) n (sum second % q) second
   second-shares = of-value (subst (λ (m : ℕ). Words m q second) same (v .below))
 
-  gives : Gives Opens (verdict k second) (verdictPlan k n)
-  gives = subst (λ (m : ℕ). Gives Opens (verdict k second) (verdictPlan k m)) same (verdict-planned set kind second v)
+  gives : Gives Opens (verdict bounds second) (verdictPlan bounds n)
+  gives = subst (λ (m : ℕ). Gives Opens (verdict bounds second) (verdictPlan bounds m)) same (verdict-planned set kind second v)
 
   -- what the second opens, by its draws
-  second-fed : (rs : List ℕ) → Fits (verdictPlan k n) rs → feed (verdict k second) rs ≡ judged (openedOf k n (meant second) rs)
+  second-fed : (rs : List ℕ) → Fits (verdictPlan bounds n) rs → feed (verdict bounds second) rs ≡ judged (openedOf bounds n (meant second) rs)
   second-fed rs f = verdict-feed laws few (sum second % q) second second-shares within-second rs f
 
-  module _ {rs : List ℕ} (y : Reads tape (verdictPlan k n) start rs (places (verdictPlan k n) tape start) (x .place)) (fed : feed (verdict k shares) rs ≡ x .outcome) where
+  module _ {rs : List ℕ} (y : Reads tape (verdictPlan bounds n) start rs (places (verdictPlan bounds n) tape start) (x .place)) (fed : feed (verdict bounds shares) rs ≡ x .outcome) where
     -- what the first opened
     c : ℕ
-    c = openedOf k n (meant shares) rs
+    c = openedOf bounds n (meant shares) rs
 
     first-told : judges (verdictGadget set kind) shares tape ≡ success (judged c) (x .place)
     unfolding judges c
@@ -89,46 +89,46 @@ module _ (set kind : ℕ) (shares tape : List ℕ) (x : Succeeded (judgeCall (ve
         ∙ ap (λ (o : Outcome). success o (x .place)) (sym fed ∙ verdict-feed laws few (sum shares % q) shares (of-value (first-valid .below)) within rs (reads-fit y))
 
     -- both rejected
-    both-zero : accepted k (meant shares) ≡ false → accepted k (meant second) ≡ false → BothZero set kind shares tape second
+    both-zero : accepted bounds (meant shares) ≡ false → accepted bounds (meant second) ≡ false → BothZero set kind shares tape second
     unfolding judges verdictGadget verdictOf c
     both-zero e f =
         let none : c ≡ 0 = rejected-opens laws few (sum shares % q) shares (of-value (first-valid .below)) within rs (reads-fit y) e in
-        let none-second : openedOf k n (meant second) rs ≡ 0 = rejected-opens laws few (sum second % q) second second-shares within-second rs (reads-fit y) f in
-        let second-told : judges (verdictGadget set kind) second tape ≡ success (judged (openedOf k n (meant second) rs)) (x .place) =
+        let none-second : openedOf bounds n (meant second) rs ≡ 0 = rejected-opens laws few (sum second % q) second second-shares within-second rs (reads-fit y) f in
+        let second-told : judges (verdictGadget set kind) second tape ≡ success (judged (openedOf bounds n (meant second) rs)) (x .place) =
         tells-success (judgeCall (verdictGadget set kind) second) tape (on-judged set kind second .passes v)
         (planned-ran (gives .plan) tape start (reads-run y) ∙ ap (λ (o : Outcome). ran o (x .place)) (second-fed rs (reads-fit y))) in
         record {
           same = second-told ∙ ap (λ (m : ℕ). success (judged m) (x .place)) (none-second ∙ sym none) ∙ sym first-told;
-          zero = ap (λ (t : Told). t .opened) (first-told ∙ ap (λ (m : ℕ). success (judged m) (x .place)) none);
+          zero = ap (λ (t : Told). t .others) (first-told ∙ ap (λ (m : ℕ). success (judged m) (x .place)) none);
         }
 
     -- the tape with the last scalar's draw set anew to the one number of us
     tape-with : List ℕ → List ℕ
-    tape-with us = anew (lastScalarMarks k n) (q - 1) (verdictPlan k n) tape start us
+    tape-with us = anew (lastScalarMarks bounds n) (q - 1) (verdictPlan bounds n) tape start us
 
     -- what the second tells on the tape with the last scalar's draw set anew to us
     told-on : (us : List ℕ) → Words 1 (q - 1) us →
-        judges (verdictGadget set kind) second (tape-with us) ≡ success (judged (openedOf k n (meant second) (merged (lastScalarMarks k n) rs us))) (x .place)
+        judges (verdictGadget set kind) second (tape-with us) ≡ success (judged (openedOf bounds n (meant second) (merged (lastScalarMarks bounds n) rs us))) (x .place)
     unfolding judges verdictGadget tape-with
     told-on us w =
-        let read = anew-reads (lastScalarMarks k n) 1 (q - 1) y (is-last k n few) us (omega arith) (omega arith) w in
+        let read = anew-reads (lastScalarMarks bounds n) 1 (q - 1) y (is-last bounds n few) us (omega arith) (omega arith) w in
         tells-success (judgeCall (verdictGadget set kind) second) (tape-with us) (on-judged set kind second .passes v)
-        (anew-run (lastScalarMarks k n) 1 (q - 1) y (is-last k n few) us (omega arith) (omega arith) w (verdict k second) (gives .plan)
-        ∙ ap (λ (o : Outcome). ran o (x .place)) (second-fed (merged (lastScalarMarks k n) rs us) (reads-fit read)))
+        (anew-run (lastScalarMarks bounds n) 1 (q - 1) y (is-last bounds n few) us (omega arith) (omega arith) w (verdict bounds second) (gives .plan)
+        ∙ ap (λ (o : Outcome). ran o (x .place)) (second-fed (merged (lastScalarMarks bounds n) rs us) (reads-fit read)))
 
     abbrev Same : List ℕ → Type 0
     Same us = judges (verdictGadget set kind) second (tape-with us) ≡ judges (verdictGadget set kind) shares tape
 
     -- exactly one draw leads to what the first opened
-    one : accepted k (meant shares) ≡ true → accepted k (meant second) ≡ true → ExactlyOne 1 (q - 1) Same
+    one : accepted bounds (meant shares) ≡ true → accepted bounds (meant second) ≡ true → ExactlyOne 1 (q - 1) Same
     unfolding c
     one e f =
-        let opened-in : Told → ℕ = λ t. getD (t .opened) 1 0 in
+        let opened-in : Told → ℕ = λ t. getD (t .others) 1 0 in
         let some : c ≢ 0 = accepted-opens laws few (sum shares % q) shares (of-value (first-valid .below)) within rs (reads-fit y) e in
         exactly-as Same
         (λ us w g. told-on us w ∙ ap (λ (m : ℕ). success (judged m) (x .place)) g ∙ sym first-told)
         (λ us w g. ap opened-in (sym (told-on us w) ∙ g ∙ first-told))
-        (one-last-scalar k n few rs (reads-fit y) (meant second) c (accepted-not-zero laws (meant second) within-second f) (opened-below k n (meant shares) rs) some)
+        (one-last-scalar bounds n few rs (reads-fit y) (meant second) c (accepted-not-zero laws (meant second) within-second f) (opened-below bounds n (meant shares) rs) some)
 
     -- a number with which the second gives the same count of words is below q − 1
     below : (us : List ℕ) → Words 1 (2 ^ bitsOf (q - 1)) us → Same us → Words 1 (q - 1) us
@@ -140,16 +140,16 @@ module _ (set kind : ℕ) (shares tape : List ℕ) (x : Succeeded (judgeCall (ve
         let (os, r, _) = planned-parts (gives .plan) (tape-with (u ∷ [])) start (z .ran-to) in
         let used : z .place .at ≡ x .place .at = ap (λ (t : Told). t .used) (sym (z .told-so) ∙ g ∙ x .told-so) in
         words-cons
-        (set-first-below (earlier k n few) (q - 1) (n - 1) q (omega arith) same-bits
-        (subst (λ (l : List ℕ). Reads tape l start rs (places (verdictPlan k n) tape start) (x .place)) (plan-last k n few) y) (omega arith)
-        (anew-is (lastScalarMarks k n) 1 (q - 1) y (is-last k n few) (u ∷ []) w)
-        (subst (λ (l : List ℕ). Reads (tape-with (u ∷ [])) l start os (places (verdictPlan k n) (tape-with (u ∷ [])) start) (z .place)) (plan-last k n few) r) used)
+        (set-first-below (earlier bounds n few) (q - 1) (n - 1) q (omega arith) same-bits
+        (subst (λ (l : List ℕ). Reads tape l start rs (places (verdictPlan bounds n) tape start) (x .place)) (plan-last bounds n few) y) (omega arith)
+        (anew-is (lastScalarMarks bounds n) 1 (q - 1) y (is-last bounds n few) (u ∷ []) w)
+        (subst (λ (l : List ℕ). Reads (tape-with (u ∷ [])) l start os (places (verdictPlan bounds n) (tape-with (u ∷ [])) start) (z .place)) (plan-last bounds n few) r) used)
         words-none
     below (u ∷ m ∷ us) w g = absurd (omega (arith, w .size))
 
-    one-scalar : accepted k (meant shares) ≡ true → accepted k (meant second) ≡ true → OneScalar set kind shares tape second
+    one-scalar : accepted bounds (meant shares) ≡ true → accepted bounds (meant second) ≡ true → OneScalar set kind shares tape second
     unfolding tape-with
-    one-scalar e f = one-anew (lastScalarMarks k n) 1 (q - 1) y (is-last k n few) (omega arith) (omega arith) below (one e f)
+    one-scalar e f = one-anew (lastScalarMarks bounds n) 1 (q - 1) y (is-last bounds n few) (omega arith) (omega arith) below (one e f)
 
 pub verdict-settings : (set kind : ℕ) (shares tape : List ℕ) → VerdictSettings set kind shares tape
 unfolding judges verdictGadget

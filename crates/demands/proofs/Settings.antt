@@ -30,11 +30,11 @@ use Rattle.demands.proofs.Runs.{tells-success, Succeeded, succeeded, su
 
 -- steps and then the closing refresh, fed with the draws r of the steps and others for the refresh
 closed-feed : (s : Sharing) {P : Outcome → Type 0} {d : Draws Outcome} {ms : List ℕ} → Gives P d ms → (r : List ℕ) → Fits ms r → (us : List ℕ) →
-    feed (closed s d) (r ++ us) ≡ record { opened = feed d r .opened; shares = feed (refresh s (feed d r .shares)) us }
+    feed (closed s d) (r ++ us) ≡ record { others = feed d r .others; shares = feed (refresh s (feed d r .shares)) us }
 unfolding closed
 closed-feed s {d = d} g r f us =
-    feed-bind (g .plan) (λ o. bind (refresh s (o .shares)) (λ zs. done (record { opened = o .opened; shares = zs }))) r us f
-    ∙ feed-map (refresh s (feed d r .shares)) (λ zs. record { opened = feed d r .opened; shares = zs }) us
+    feed-bind (g .plan) (λ o. bind (refresh s (o .shares)) (λ zs. done (record { others = o .others; shares = zs }))) r us f
+    ∙ feed-map (refresh s (feed d r .shares)) (λ zs. record { others = feed d r .others; shares = zs }) us
 
 module _ {c : Claim} (s : Steps c) (shares tape out : List ℕ) where
   n : ℕ
@@ -96,7 +96,7 @@ module _ {c : Claim} (s : Steps c) (shares tape out : List ℕ) where
 
       -- what the second input gives on the tape with the closing draws set anew to us
       given : List ℕ → Outcome
-      given us = record { opened = o .opened; shares = feed (refresh (c .gadget .output) (o .shares)) (merged (closingMarks n) (f .snd) us) }
+      given us = record { others = o .others; shares = feed (refresh (c .gadget .output) (o .shares)) (merged (closingMarks n) (f .snd) us) }
 
       told-on : (us : List ℕ) → Words (n - 1) M us → tells (c .gadget) second (closingAnew us) slice ≡ success (given us) (x .place)
       unfolding closingAnew given o marks closingDraws M tells
@@ -110,7 +110,7 @@ module _ {c : Claim} (s : Steps c) (shares tape out : List ℕ) where
 
       works : (us : List ℕ) → SameBut n j (given us .shares) (x .outcome .shares) → SameTold n j (success (given us) (x .place)) (success (x .outcome) (x .place))
       unfolding given
-      works us t = record { succeeds = refl; shares = t; opened = as-claimed .opened ∙ opens ∙ sym (shown .opened); used = refl }
+      works us t = record { succeeds = refl; shares = t; others = as-claimed .opened ∙ opens ∙ sym (shown .opened); used = refl }
 
       one : ExactlyOne (n - 1) M (λ us. SameTold n j (tells (c .gadget) second (closingAnew us) slice) (tells (c .gadget) shares tape out))
       unfolding given M n tells

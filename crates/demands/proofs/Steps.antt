@@ -36,7 +36,7 @@ pub closed-give : {c : Claim} → Steps c → c .InRange → (n : ℕ) → 2 ≤
 unfolding closed plan
 closed-give {c} s r n least most xs w =
     gives-bind _ (refreshPlan out n) (s .give r n least most xs w)
-    (λ o d. gives-map (Claimed c n xs) (λ zs. record { opened = o .opened; shares = zs })
+    (λ o d. gives-map (Claimed c n xs) (λ zs. record { others = o .others; shares = zs })
     (refresh-keeps out (s .range .positive r) (value out (o .shares)) (o .shares) (omega arith) (record { words = d .words; is = refl }))
     (λ zs k. record { opened = d .opened; words = k .words; recombined = subst (c .Plain (value (c .gadget .input) xs)) (sym (k .is)) (d .recombined) }))
   where

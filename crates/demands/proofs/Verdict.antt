@@ -43,19 +43,19 @@ unfolding judgedStandsFor
 verdict-unique set kind shares tape r s e h = ap answer (e ∙ sym h)
   where
     answer : Told → Judged
-    answer t = record { number = t .number; verdict = getD (t .opened) 0 0; opened = getD (t .opened) 1 0; used = t .used }
+    answer t = record { number = t .number; verdict = getD (t .others) 0 0; opened = getD (t .others) 1 0; used = t .used }
 
 -- (α + 1 + 2ρ)·d² + d + n·d/2 + n² draws a call, for d = n - 1
-pub verdict-call-draws : (k : Bounds) (n : ℕ) → 0 < n → length (verdictPlan k n) ≡ (alpha n + 1 + 2 * k .rho) * ((n - 1) * (n - 1)) + (n - 1) + n * (n - 1) / 2 + n * n
+pub verdict-call-draws : (bounds : Bounds) (n : ℕ) → 0 < n → length (verdictPlan bounds n) ≡ (alpha n + 1 + 2 * bounds .rho) * ((n - 1) * (n - 1)) + (n - 1) + n * (n - 1) / 2 + n * n
 unfolding verdictPlan frontPlan sidesPlan widenPlan refreshPlan productPlan
-verdict-call-draws k n few =
-    let ρ : ℕ = k .rho in
+verdict-call-draws bounds n few =
+    let ρ : ℕ = bounds .rho in
     let d : ℕ = (n - 1) * (n - 1) in
-    let widened : length (widenPlan k n) ≡ (alpha n + 1) * d = shift-draws (2 ^ ρ) (alpha n + 1) n in
+    let widened : length (widenPlan bounds n) ≡ (alpha n + 1) * d = shift-draws (2 ^ ρ) (alpha n + 1) n in
     let side : length (shiftPlan q ρ n) ≡ ρ * d = shift-draws q ρ n in
     rw (
-      length-append (frontPlan k n) (scalesPlan q n n),
-      length-append (widenPlan k n) (sidesPlan k n),
+      length-append (frontPlan bounds n) (scalesPlan q n n),
+      length-append (widenPlan bounds n) (sidesPlan bounds n),
       length-append (shiftPlan q ρ n) (shiftPlan q ρ n ++ (refreshPlan (arithmetic q) n ++ productPlan q n)),
       length-append (shiftPlan q ρ n) (refreshPlan (arithmetic q) n ++ productPlan q n),
       length-append (refreshPlan (arithmetic q) n) (productPlan q n),

@@ -54,16 +54,16 @@ module _ (set kind : ℕ) (shares : List ℕ) where
   judgement : Valid (verdictClaim set kind shares) → (tape : List ℕ) {o : Outcome} {p : Cursor} → run (verdict (kindOf set kind) shares) tape start ≡ ran o p →
       Judgement (kindOf set kind) shares tape p o
   judgement v tape {o} e =
-      let k : Bounds = kindOf set kind in
+      let bounds : Bounds = kindOf set kind in
       let laws = laws-of kind (v .range .0) in
       let g = verdict-planned v in
       let j = always-run (g .always) tape start e in
       let (rs, reads, fed) = planned-parts (g .plan) tape start e in
-      let number : Within k shares → j .number ≡ openedOf k (length shares) (meant shares) rs = λ i. ap opened-in (sym (j .is) ∙ sym fed ∙ Value.verdict-feed laws (omega (arith, v .count .0)) (sum shares % q) shares (of-value (v .below)) i rs (reads-fit reads)) in
+      let number : Within bounds shares → j .number ≡ openedOf bounds (length shares) (meant shares) rs = λ i. ap opened-in (sym (j .is) ∙ sym fed ∙ Value.verdict-feed laws (omega (arith, v .count .0)) (sum shares % q) shares (of-value (v .below)) i rs (reads-fit reads)) in
       record {
         opens = j .number;
         below = j .below;
-        tells = ap (λ (y : Outcome). y .opened) (j .is);
+        tells = ap (λ (y : Outcome). y .others) (j .is);
         no-shares = ap (λ (y : Outcome). y .shares) (j .is);
         draws = rs;
         drawn = reads-run reads;
@@ -72,7 +72,7 @@ module _ (set kind : ℕ) (shares : List ℕ) where
       }
     where
       opened-in : Outcome → ℕ
-      opened-in y = getD (y .opened) 1 0
+      opened-in y = getD (y .others) 1 0
 
   pub on-judged : Answers (verdictClaim set kind shares)
   unfolding verdictGadget n more checks

@@ -31,7 +31,7 @@ keeping g InRange draws = record { gadget = g; InRange = InRange; draws = draws;
 pub record Claimed (c : Claim) (n : ℕ) (xs : List ℕ) (o : Outcome) : Type 0 where
   pub words : Words n (bound (c .gadget .output)) (o .shares)
   pub recombined : c .Plain (value (c .gadget .input) xs) (value (c .gadget .output) (o .shares))
-  pub opened : o .opened ≡ c .opens (value (c .gadget .input) xs)
+  pub opened : o .others ≡ c .opens (value (c .gadget .input) xs)
 
 -- all draws of a call with n shares, the closing refresh's included
 unfoldable pub plan : Claim → ℕ → List ℕ

@@ -33,5 +33,5 @@ onStated c n out =
       InRange = c .InRange;
       Below = Unit {0};
       plan = c .draws n;
-      Right = λ tape p o. c .Fills n tape p (o .shares) × (o .opened ≡ []);
+      Right = λ tape p o. c .Fills n tape p (o .shares) × (o .others ≡ []);
     }

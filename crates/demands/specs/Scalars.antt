@@ -27,7 +27,7 @@ OneScalar set kind shares tape second =
 -- the second call, on the same tape, tells what the first told, and 0 was opened
 pub record BothZero (set kind : ℕ) (shares tape second : List ℕ) : Type 0 where
   pub same : judges (verdictGadget set kind) second tape ≡ judges (verdictGadget set kind) shares tape
-  pub zero : judges (verdictGadget set kind) shares tape .opened ≡ 0 ∷ 0 ∷ []
+  pub zero : judges (verdictGadget set kind) shares tape .others ≡ 0 ∷ 0 ∷ []
 
 -- for a first call that succeeds, and a second one of the same set, kind and share count, both within the reach
 pub record Scalars (set kind : ℕ) (shares tape second : List ℕ) : Type 0 where

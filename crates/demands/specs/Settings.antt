@@ -14,11 +14,11 @@ use Rattle.gate.specs.Gadget.{tells}
 use Rattle.demands.specs.Call.{Valid}
 use Rattle.demands.specs.Claim.{Claim, plan, onShares}
 
--- t and u, both of a call that succeeds, have the same shares but share j, the same opened numbers and the same count of words used
+-- t and u, both of a call that succeeds, have the same shares but share j, the same numbers in the other fields, which are those opened, and the same count of words used
 pub record SameTold (n j : ℕ) (t u : Told) : Type 0 where
   pub succeeds : t .number ≡ 0
   pub shares : SameBut n j (t .out) (u .out)
-  pub opened : t .opened ≡ u .opened
+  pub others : t .others ≡ u .others
   pub used : t .used ≡ u .used
 
 -- the closing draws of a call with n shares, among all its draws

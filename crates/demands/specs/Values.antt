@@ -16,9 +16,9 @@ pub record Correct (c : CallClaim) (tape : List ℕ) (t : Told) : Type 0 where
   pub valid : Valid c
   -- the output slice and the other fields are as claimed, of the tape's words up to a place
   pub place : Cursor
-  pub right : c .Right tape place (record { opened = t .opened; shares = t .out })
+  pub right : c .Right tape place (record { others = t .others; shares = t .out })
   -- there are as many of these fields as a refusal has zeros
-  pub fields : length (t .opened) ≡ c .fields
+  pub fields : length (t .others) ≡ c .fields
   -- words used are the words up to that place: the draws and the words skipped
   pub up-to : t .used ≡ place .at
   pub used : t .used ≡ length (c .plan) + skipped (c .plan) tape start

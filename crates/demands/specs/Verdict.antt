@@ -29,21 +29,21 @@ meant shares = centred q (value (arithmetic q) shares)
 
 -- it lies in −b .. b
 abbrev pub Within : Bounds → List ℕ → Type 0
-Within k shares = natAbs (meant shares) ≤ k .b
+Within bounds shares = natAbs (meant shares) ≤ bounds .b
 
 -- the outcome of a call with these shares, on a tape of which the words up to a place were read
-pub record Judgement (k : Bounds) (shares tape : List ℕ) (place : Cursor) (o : Outcome) : Type 0 where
+pub record Judgement (bounds : Bounds) (shares tape : List ℕ) (place : Cursor) (o : Outcome) : Type 0 where
   -- a number below q is opened; zero rejects, all else accepts; and there are no shares
   pub opens : ℕ
   pub below : opens < q
-  pub tells : o .opened ≡ verdictOf opens ∷ opens ∷ []
+  pub tells : o .others ≡ verdictOf opens ∷ opens ∷ []
   pub no-shares : o .shares ≡ []
   -- within the reach it is the product of the two sides and of the scalars, which are among the draws of the call,
   pub draws : List ℕ
-  pub drawn : run (drawAll (verdictPlan k (length shares))) tape start ≡ ran draws place
-  pub product : Within k shares → opens ≡ openedOf k (length shares) (meant shares) draws
+  pub drawn : run (drawAll (verdictPlan bounds (length shares))) tape start ≡ ran draws place
+  pub product : Within bounds shares → opens ≡ openedOf bounds (length shares) (meant shares) draws
   -- and the verdict is 1 exactly where the size is below the bound
-  pub plain : Within k shares → verdictOf opens ≡ pick (accepted k (meant shares)) 1 0
+  pub plain : Within bounds shares → verdictOf opens ≡ pick (accepted bounds (meant shares)) 1 0
 
 abbrev pub verdictClaim : (set kind : ℕ) → (shares : List ℕ) → CallClaim
 verdictClaim set kind shares =

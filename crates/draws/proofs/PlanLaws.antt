@@ -1,15 +1,15 @@
 -- Laws of outcomes and of plans, proved once for every program.
 use mathlib.Core.Path.{_≡_, refl, sym, ap, subst, subst₂, _∙_}
-use mathlib.Core.List.{List, [], _∷_, _++_}
+use mathlib.Core.List.{List, [], _∷_, _++_, append-nil, append-assoc}
 use Prim.Native.Nat.{ℕ, zero, suc, _+_, _-_, _*_, _≤_, _<_}
 use native.Mathlib.Omega.{arith}
-use lib.ListN.{length, drop, replicate, replicate-append-replicate}
-use Rattle.numbers.specs.Lists.{Words, over}
+use lib.ListN.{length, drop, replicate, length-append, replicate-append-replicate}
+use Rattle.numbers.specs.Lists.{Words}
 use Rattle.numbers.proofs.WordsLaws.{words-none, words-head, words-tail, words-cons}
 use Rattle.tape.specs.declared.Cursor.{Cursor}
 use Rattle.tape.specs.Tape.{Ran, ended, ran, drawAt}
 use Rattle.draws.specs.Draws.{Draws, done, draw, after, next, run, bind, turns}
-use Rattle.draws.specs.Plan.{drawAll, skipFrom, skipped, places}
+use Rattle.draws.specs.Plan.{repeated, drawAll, skipFrom, skipped, places}
 use Rattle.draws.specs.Anew.{Same}
 use Rattle.draws.proofs.Outcomes.{Always, holds, whatever, Plan, stops, draws, Gives, feed, Fits, none-left, one-more}
 use Rattle.draws.proofs.RunLaws.{run-bind, run-draw, bind-ran, next-ran, draw-parts, bind-parts}
@@ -54,24 +54,35 @@ gives-done h = record { plan = stops; always = holds h }
 pub gives-draw : {A : Type 0} {P : A → Type 0} {M : ℕ} {k : ℕ → Draws A} {ms : List ℕ} → ((r : ℕ) → r < M → Gives P (k r) ms) → Gives P (draw M k) (M ∷ ms)
 gives-draw h = record { plan = draws (λ r l. h r l .plan); always = whatever (λ r l. h r l .always) }
 
+-- the last time, and not the first, apart from the others
+pub repeated-last : (k : ℕ) (ms : List ℕ) → repeated (suc k) ms ≡ repeated k ms ++ ms
+unfolding repeated
+repeated-last zero ms = append-nil ms
+repeated-last (suc k) ms = ap (ms ++_) (repeated-last k ms) ∙ sym (append-assoc ms (repeated k ms) ms)
+
+pub repeated-length : (k : ℕ) (ms : List ℕ) → length (repeated k ms) ≡ k * length ms
+unfolding repeated
+repeated-length zero ms = omega arith
+repeated-length (suc k) ms = length-append ms (repeated k ms) ∙ rw (repeated-length k ms) (omega arith)
+
 -- turns that each make the draws of one plan
 pub gives-rounds : {A : Type 0} (P : ℕ → A → Type 0) (f : ℕ → A → Draws A) (ms : List ℕ) (top : ℕ) →
     ((i : ℕ) (a : A) → i < top → P i a → Gives (P (suc i)) (f i a) ms) → (i k : ℕ) (a : A) → i + k ≤ top → P i a →
-    Gives (P (i + k)) (turns f i k a) (over (λ c ns. ms ++ ns) k [])
-unfolding turns over
+    Gives (P (i + k)) (turns f i k a) (repeated k ms)
+unfolding turns repeated
 gives-rounds P f ms top g i zero a h p = let e : i + 0 ≡ i = omega arith in rw e (gives-done p)
 gives-rounds P f ms top g i (suc k) a h p =
     let e : i + suc k ≡ suc i + k = omega arith in
-    rw e (gives-bind (λ b. turns f (suc i) k b) (over (λ c ns. ms ++ ns) k []) (g i a (omega arith) p) (λ b q. gives-rounds P f ms top g (suc i) k b (omega arith) q))
+    rw e (gives-bind (λ b. turns f (suc i) k b) (repeated k ms) (g i a (omega arith) p) (λ b q. gives-rounds P f ms top g (suc i) k b (omega arith) q))
 
 -- turns that each make d draws below M
 pub gives-turns : {A : Type 0} (P : ℕ → A → Type 0) (f : ℕ → A → Draws A) (d M top : ℕ) →
     ((i : ℕ) (a : A) → i < top → P i a → Gives (P (suc i)) (f i a) (replicate d M)) → (i k : ℕ) (a : A) → i + k ≤ top → P i a →
     Gives (P (i + k)) (turns f i k a) (replicate (k * d) M)
-unfolding over
+unfolding repeated
 gives-turns P f d M top g i k a h p = subst (Gives (P (i + k)) (turns f i k a)) (all k) (gives-rounds P f (replicate d M) top g i k a h p)
   where
-    all : (k : ℕ) → over (λ c ns. replicate d M ++ ns) k [] ≡ replicate (k * d) M
+    all : (k : ℕ) → repeated k (replicate d M) ≡ replicate (k * d) M
     all zero = let z : 0 * d ≡ 0 = omega arith in rw z
     all (suc k) = let z : suc k * d ≡ d + k * d = omega arith in rw (z, ← replicate-append-replicate d (k * d) M) (ap (replicate d M ++_) (all k))
 

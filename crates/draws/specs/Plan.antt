@@ -1,12 +1,17 @@
 -- Plans: the moduli that a program draws below, in turn. Which words reading a plan takes and skips (document 01, "The tape").
-use mathlib.Core.List.{List, [], _∷_}
-use Prim.Native.Nat.{ℕ, _+_, _-_}
+use mathlib.Core.List.{List, [], _∷_, _++_}
+use Prim.Native.Nat.{ℕ, zero, suc, _+_, _-_}
 use lib.ListN.{drop}
 use lib.Dec.{ltb}
 use Rattle.numbers.specs.Tests.{pick}
 use Rattle.tape.specs.declared.Cursor.{Cursor}
 use Rattle.tape.specs.Tape.{lowBits, drawAt}
 use Rattle.draws.specs.Draws.{Draws, done, draw, after, bind}
+
+-- a plan k times over
+unfoldable pub repeated : ℕ → List ℕ → List ℕ
+repeated zero ms = []
+repeated (suc k) ms = ms ++ repeated k ms
 
 -- the program that reads a plan: it draws below each of ms and answers the list of the draws
 unfoldable pub drawAll : List ℕ → Draws (List ℕ)

@@ -34,11 +34,11 @@ module _ (c : Call) (tape : List ℕ) where
 
 -- shares given after numbers were opened, run
 pub run-opened : (opened : List ℕ) (d : Draws (List ℕ)) (tape : List ℕ) (p : Cursor) →
-    run (bind d (λ xs. done (record { opened = opened; shares = xs }))) tape p ≡ openedRan opened (run d tape p)
+    run (bind d (λ xs. done (record { others = opened; shares = xs }))) tape p ≡ openedRan opened (run d tape p)
 unfolding next after openedRan run
-run-opened opened d tape p = run-bind d (λ xs. done (record { opened = opened; shares = xs })) tape p ∙ last (run d tape p)
+run-opened opened d tape p = run-bind d (λ xs. done (record { others = opened; shares = xs })) tape p ∙ last (run d tape p)
   where
-    last : (x : Ran (List ℕ)) → next x (λ zs c. run (done (record { opened = opened; shares = zs })) tape c) ≡ openedRan opened x
+    last : (x : Ran (List ℕ)) → next x (λ zs c. run (done (record { others = opened; shares = zs })) tape c) ≡ openedRan opened x
     last ended = refl
     last (ran zs c) = refl
 
@@ -51,7 +51,7 @@ run-silent d tape p = run-opened [] d tape p
 pub closed-silent : (s : Sharing) (d : Draws (List ℕ)) (tape : List ℕ) (p : Cursor) → run (closed s (silentSteps d)) tape p ≡ silentRan (run (bind d (refresh s)) tape p)
 unfolding closed silentSteps bind
 closed-silent s d tape p =
-    ap (λ e. run e tape p) (bind-assoc d (λ xs. done (silent xs)) (λ o. bind (refresh s (o .shares)) (λ zs. done (record { opened = o .opened; shares = zs })))
+    ap (λ e. run e tape p) (bind-assoc d (λ xs. done (silent xs)) (λ o. bind (refresh s (o .shares)) (λ zs. done (record { others = o .others; shares = zs })))
     ∙ sym (bind-assoc d (refresh s) (λ zs. done (silent zs))))
     ∙ run-silent (bind d (refresh s)) tape p
 

@@ -31,7 +31,7 @@ silentGadget inRange input output steps = record { inRange = inRange; input = in
 
 -- a gadget on shares ends with a closing refresh, in its output's modulus or width; a sampler's steps close each coefficient themselves
 unfoldable pub closed : Sharing → Draws Outcome → Draws Outcome
-closed s d = bind d (λ o. bind (refresh s (o .shares)) (λ zs. done (record { opened = o .opened; shares = zs })))
+closed s d = bind d (λ o. bind (refresh s (o .shares)) (λ zs. done (record { others = o .others; shares = zs })))
 
 -- a call of it; number 5 leaves the output slice unchanged too
 abbrev pub call : Gadget → (shares out : List ℕ) → Call

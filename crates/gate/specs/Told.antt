@@ -12,31 +12,30 @@ use Rattle.gate.specs.declared.Answer.{Answer}
 use Rattle.gate.specs.declared.Decomposed.{Decomposed}
 use Rattle.gate.specs.declared.Judged.{Judged}
 
--- the number; the other fields, which a gadget fills with the numbers that it opens, and the verdict with its verdict too; the words used; and the output
--- slice
+-- the number; what is in the other fields: the numbers that a gadget opens, of the verdict also its verdict; the words used; and the output slice
 pub record Told : Type 0 where
   pub number : ℕ
-  pub opened : List ℕ
+  pub others : List ℕ
   pub used : ℕ
   pub out : List ℕ
 
 -- a refusal: its number, and 0 for all else that is told
 unfoldable pub refusal : ℕ → ℕ → List ℕ → Told
-refusal fields number out = record { number = number; opened = replicate fields 0; used = 0; out = out }
+refusal fields number out = record { number = number; others = replicate fields 0; used = 0; out = out }
 
 -- the outcome of a gadget's steps: what fills those fields, and its shares
 pub record Outcome : Type 0 where
-  pub opened : List ℕ
+  pub others : List ℕ
   pub shares : List ℕ
 
 -- shares, and nothing opened
 abbrev pub silent : List ℕ → Outcome
-silent xs = record { opened = []; shares = xs }
+silent xs = record { others = []; shares = xs }
 
 -- shares that were given, with the numbers that were opened before
 unfoldable pub openedRan : List ℕ → Ran (List ℕ) → Ran Outcome
 openedRan opened ended = ended
-openedRan opened (ran xs c) = ran (record { opened = opened; shares = xs }) c
+openedRan opened (ran xs c) = ran (record { others = opened; shares = xs }) c
 
 -- or with none
 abbrev pub silentRan : Ran (List ℕ) → Ran Outcome
@@ -45,7 +44,7 @@ silentRan x = openedRan [] x
 -- the tape ends before the last draw, which leaves `short` in the output slice, or the number is 0 and the shares fill it
 unfoldable pub ranTold : ℕ → Ran Outcome → (short : List ℕ) → Told
 ranTold fields ended short = refusal fields 5 short
-ranTold fields (ran o c) short = record { number = 0; opened = o .opened; used = c .at; out = o .shares }
+ranTold fields (ran o c) short = record { number = 0; others = o .others; used = c .at; out = o .shares }
 
 -- a call, all but its tape given
 pub record Call : Type 0 where
@@ -71,12 +70,12 @@ told c tape =
 
 -- what an answer with no other field and the output slice stand for
 unfoldable pub standsFor : Answer → List ℕ → Told
-standsFor r out = record { number = r .number; opened = []; used = r .used; out = out }
+standsFor r out = record { number = r .number; others = []; used = r .used; out = out }
 
 -- and of Decompose, whose other field is the high part
 unfoldable pub partsStandFor : Decomposed → List ℕ → Told
-partsStandFor r out = record { number = r .number; opened = r .high ∷ []; used = r .used; out = out }
+partsStandFor r out = record { number = r .number; others = r .high ∷ []; used = r .used; out = out }
 
 -- and of the verdict, with its verdict and the opened number, and no output slice
 unfoldable pub judgedStandsFor : Judged → Told
-judgedStandsFor r = record { number = r .number; opened = r .verdict ∷ r .opened ∷ []; used = r .used; out = [] }
+judgedStandsFor r = record { number = r .number; others = r .verdict ∷ r .opened ∷ []; used = r .used; out = [] }

@@ -15,7 +15,7 @@ use Rattle.parts.specs.Plain.{highOf, lowOf}
 
 -- a call that succeeds with two shares
 abbrev shares : ℕ → ℕ → ℕ → Told
-shares used x y = record { number = 0; opened = []; used = used; out = x ∷ y ∷ [] }
+shares used x y = record { number = 0; others = []; used = used; out = x ∷ y ∷ [] }
 
 -- FIPS 204's Decompose of a residue, for set 44: the high part and the low one
 abbrev parts44 : ℕ → ℕ × ℤ

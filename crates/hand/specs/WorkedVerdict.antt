@@ -25,14 +25,14 @@ pub record WorkedVerdict : Type 0 where
   -- two turns of the zero test show in them; 8380416 and 8380417 are skipped, so the scalars are 43 and 57
   pub tested-shares : run (tested (kindOf 44 1) (5000000 ∷ 3511410 ∷ [])) verdictTape start ≡ ran (3891065 ∷ 6999176 ∷ []) (record { at = 26 })
   -- so their sum is opened, and it is accepted
-  pub judged-small : judges (verdictGadget 44 1) (5000000 ∷ 3511410 ∷ []) verdictTape ≡ record { number = 0; opened = 1 ∷ 2509824 ∷ []; used = 26; out = [] }
+  pub judged-small : judges (verdictGadget 44 1) (5000000 ∷ 3511410 ∷ []) verdictTape ≡ record { number = 0; others = 1 ∷ 2509824 ∷ []; used = 26; out = [] }
   -- 130994 is rejected
-  pub judged-large : judges (verdictGadget 44 1) (5000000 ∷ 3511411 ∷ []) verdictTape ≡ record { number = 0; opened = 0 ∷ 0 ∷ []; used = 26; out = [] }
+  pub judged-large : judges (verdictGadget 44 1) (5000000 ∷ 3511411 ∷ []) verdictTape ≡ record { number = 0; others = 0 ∷ 0 ∷ []; used = 26; out = [] }
   -- without the last word nothing is shown
-  pub judged-short : judges (verdictGadget 44 1) (5000000 ∷ 3511410 ∷ []) (take 25 verdictTape) ≡ record { number = 5; opened = 0 ∷ 0 ∷ []; used = 0; out = [] }
+  pub judged-short : judges (verdictGadget 44 1) (5000000 ∷ 3511410 ∷ []) (take 25 verdictTape) ≡ record { number = 5; others = 0 ∷ 0 ∷ []; used = 0; out = [] }
   -- beyond the reach it is not claimed which: −131151 is rejected in these shares and accepted in those
-  pub beyond-rejected : judges (verdictGadget 44 1) (8249266 ∷ 0 ∷ []) verdictTape .opened ≡ 0 ∷ 0 ∷ []
-  pub beyond-accepted : judges (verdictGadget 44 1) (1963954 ∷ 6285312 ∷ []) verdictTape .opened ≡ 1 ∷ 3446274 ∷ []
+  pub beyond-rejected : judges (verdictGadget 44 1) (8249266 ∷ 0 ∷ []) verdictTape .others ≡ 0 ∷ 0 ∷ []
+  pub beyond-accepted : judges (verdictGadget 44 1) (1963954 ∷ 6285312 ∷ []) verdictTape .others ≡ 1 ∷ 3446274 ∷ []
   -- 24 draws with two shares, 1079 with eight
   pub verdict-draws-2 : length (verdictPlan (kindOf 44 1) 2) ≡ 24
   pub verdict-draws-8 : length (verdictPlan (kindOf 44 1) 8) ≡ 1079

@@ -40,12 +40,12 @@ fn verdict_of(opened: u32) -> u32
     if opened == 0 { 0 } else { 1 }
 }
 
-fn verdict_by(shares: &[u32], tape: &[u32], k: Bounds) -> Judged
-    requires { ⌜ KindLaws k × Checked (now shares) (length (now shares)) q ⌝ }
-    ensures { λ r. ⌜ judgedStandsFor r ≡ ranTold 2 (run (verdict k (now (shares .entry))) (now (tape .entry)) start) [] ⌝ }
+fn verdict_by(shares: &[u32], tape: &[u32], bounds: Bounds) -> Judged
+    requires { ⌜ KindLaws bounds × Checked (now shares) (length (now shares)) q ⌝ }
+    ensures { λ r. ⌜ judgedStandsFor r ≡ ranTold 2 (run (verdict bounds (now (shares .entry))) (now (tape .entry)) start) [] ⌝ }
 {
     let n = shares.len();
-    let s = tested_shares(copy_in(shares), n, k, Cursor::start(), tape);
+    let s = tested_shares(copy_in(shares), n, bounds, Cursor::start(), tape);
     if !s.ok {
         return refused_verdict(5);
     }

@@ -1,10 +1,10 @@
 -- Sampling of a polynomial (document 01, "Steps"): 256 coefficients, each in its row of the slice.
-use mathlib.Core.List.{List, [], _++_}
+use mathlib.Core.List.{List, _++_}
 use Prim.Native.Nat.{ℕ, _+_, _*_}
 use lib.ListN.{length, take, drop}
-use Rattle.numbers.specs.Lists.{over}
 use Rattle.params.specs.declared.Params.{Params}
 use Rattle.draws.specs.Draws.{Draws, done, bind, each}
+use Rattle.draws.specs.Plan.{repeated}
 use Rattle.masks.specs.Sampling.{coefficient, coefficientPlan}
 
 -- the words ys fill a slice from a place on
@@ -20,4 +20,4 @@ unfoldable pub polynomial : Params → ℕ → List ℕ → Draws (List ℕ)
 polynomial p n out = each (row p n) 0 256 out
 
 unfoldable pub polynomialPlan : Params → ℕ → List ℕ
-polynomialPlan p n = over (λ c ms. coefficientPlan p n ++ ms) 256 []
+polynomialPlan p n = repeated 256 (coefficientPlan p n)

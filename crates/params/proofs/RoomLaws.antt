@@ -38,25 +38,25 @@ module _ {p : Params} (l : Laws p) where
   pub mask-most : p .mu ≤ 21
   mask-most = let h = power-below (p .mu) 22 (omega (arith, l .mask, mask-small)) in omega arith
 
-module _ {k : Bounds} (h : KindLaws k) where
+module _ {bounds : Bounds} (h : KindLaws bounds) where
   -- the widened modulus 2^ρ·q is a word, so ρ is at most 9
-  pub rho-most : k .rho ≤ 9
-  rho-most = let l = power-below (k .rho) 10 (omega (arith, h .word)) in omega arith
+  pub rho-most : bounds .rho ≤ 9
+  rho-most = let l = power-below (bounds .rho) 10 (omega (arith, h .word)) in omega arith
 
-  pub wraps-least : 2 ≤ 2 ^ k .rho
+  pub wraps-least : 2 ≤ 2 ^ bounds .rho
   wraps-least = pow-mono {i = 1} (h .least)
 
-  pub reach-below : k .b < q
+  pub reach-below : bounds .b < q
   reach-below = omega (arith, h .quarter)
 
-  pub bound-below : k .a < q
+  pub bound-below : bounds .a < q
   bound-below = omega (arith, h .order, reach-below)
 
   -- a word has room for 2^(α+1+ρ)
-  pub wraps-room : (n : ℕ) → n ≤ 8 → 2 ^ (alpha n + 1) * 2 ^ k .rho < 2 ^ 32
+  pub wraps-room : (n : ℕ) → n ≤ 8 → 2 ^ (alpha n + 1) * 2 ^ bounds .rho < 2 ^ 32
   wraps-room n most =
       let l : 2 ^ (alpha n + 1) ≤ 2 ^ 4 = pow-mono {j = 4} (omega (arith, alpha-most n most)) in
-      omega (arith, mul-le-mul-right (2 ^ k .rho) l, h .word)
+      omega (arith, mul-le-mul-right (2 ^ bounds .rho) l, h .word)
 
 module _ {p : Params} (l : Laws p) where
   pub half-least : 0 < p .gamma2

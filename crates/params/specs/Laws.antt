@@ -6,12 +6,12 @@ use Rattle.params.specs.declared.Bounds.{Bounds}
 use Rattle.params.specs.declared.Params.{Params}
 
 -- of the bounds of a kind: a ≤ b, b − a < 2^ρ, and 4b ≤ q; ρ is at least 1, since a draw is below 2 or more, and 2^ρ·q is a word
-pub record KindLaws (k : Bounds) : Type 0 where
-  pub order : k .a ≤ k .b
-  pub past : k .b < k .a + 2 ^ k .rho
-  pub quarter : 4 * k .b ≤ q
-  pub least : 1 ≤ k .rho
-  pub word : 2 ^ k .rho * q < 2 ^ 32
+pub record KindLaws (bounds : Bounds) : Type 0 where
+  pub order : bounds .a ≤ bounds .b
+  pub past : bounds .b < bounds .a + 2 ^ bounds .rho
+  pub quarter : 4 * bounds .b ≤ q
+  pub least : 1 ≤ bounds .rho
+  pub word : 2 ^ bounds .rho * q < 2 ^ 32
 
 pub record Laws (p : Params) : Type 0 where
   -- the mask's offset γ1 − 1 is not zero

@@ -44,7 +44,7 @@ pub record Low (γ2 n x : ℕ) (ys : List ℕ) : Type 0 where
 
 -- the high part of x, opened, and low shares
 pub record Parts (γ2 n x : ℕ) (o : Outcome) : Type 0 where
-  pub opened : o .opened ≡ highOf γ2 x ∷ []
+  pub opened : o .others ≡ highOf γ2 x ∷ []
   pub low : Low γ2 n x (o .shares)
 
 module _ {p : Params} (l : Laws p) where
@@ -131,5 +131,5 @@ module _ {p : Params} (l : Laws p) where
   decompose-gives n x xs some a =
       let one : suc (n - 1) ≡ n = omega arith in
       let high = subst (λ (m : ℕ). Gives (λ h. h ≡ highOf (p .gamma2) x) (highPart p xs) (highPlan p m)) one (part-gives (n - 1) x (subst (λ (m : ℕ). Shares (arithmetic q) m x xs) (sym one) a)) in
-      gives-map (Parts (p .gamma2) n x) (λ h. record { opened = h ∷ []; shares = lowShares p h xs }) high
+      gives-map (Parts (p .gamma2) n x) (λ h. record { others = h ∷ []; shares = lowShares p h xs }) high
       (λ h e. record { opened = ap (λ (k : ℕ). k ∷ []) e; low = low-gives n x h xs some a e })

@@ -38,4 +38,4 @@ lowShares p high xs = takeFromFirst (arithmetic q) (2 * p .gamma2 * high) xs
 
 -- so the high part is opened, and the low shares are given
 unfoldable pub decompose : Params → List ℕ → Draws Outcome
-decompose p xs = bind (highPart p xs) (λ high. done (record { opened = high ∷ []; shares = lowShares p high xs }))
+decompose p xs = bind (highPart p xs) (λ high. done (record { others = high ∷ []; shares = lowShares p high xs }))

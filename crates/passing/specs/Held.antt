@@ -38,8 +38,8 @@ stepsHeld wanted (ran xs c) = held wanted (0 ∷ c .at ∷ word 0 xs ∷ word 1 
 
 -- of Decompose: the number, the words used, the high part, and what both low shares recombine to
 unfoldable pub partsShown : Told → List ℕ
-partsShown t = t .number ∷ t .used ∷ word 0 (t .opened) ∷ addMod q (word 0 (t .out)) (word 1 (t .out)) ∷ []
+partsShown t = t .number ∷ t .used ∷ word 0 (t .others) ∷ addMod q (word 0 (t .out)) (word 1 (t .out)) ∷ []
 
 -- of the verdict: the number, the words used, 1 if accepted, and the opened number
 unfoldable pub verdictShown : Told → List ℕ
-verdictShown t = t .number ∷ t .used ∷ word 0 (t .opened) ∷ word 1 (t .opened) ∷ []
+verdictShown t = t .number ∷ t .used ∷ word 0 (t .others) ∷ word 1 (t .others) ∷ []

@@ -31,31 +31,37 @@ fn negated(shares: [u32; Params::MOST], m: u32) -> [u32; Params::MOST]
     words
 }
 
-fn side(shares: [u32; Params::MOST], n: usize, k: Bounds, cursor: Cursor, tape: &[u32]) -> Shared
-    requires { ⌜ KindLaws k × Held 8 n (wide k) shares ⌝ }
-    ensures { λ r. ⌜ Gave n q r (run (side k (take n shares)) (now (tape .entry)) cursor) ⌝ }
+fn side(
+    shares: [u32; Params::MOST],
+    n: usize,
+    bounds: Bounds,
+    cursor: Cursor,
+    tape: &[u32],
+) -> Shared
+    requires { ⌜ KindLaws bounds × Held 8 n (wide bounds) shares ⌝ }
+    ensures { λ r. ⌜ Gave n q r (run (side bounds (take n shares)) (now (tape .entry)) cursor) ⌝ }
 {
-    let words = take_from_first(shares, k.a, wide(k));
-    shift_by(words, n, Params::Q, k.rho, cursor, tape)
+    let words = take_from_first(shares, bounds.a, wide(bounds));
+    shift_by(words, n, Params::Q, bounds.rho, cursor, tape)
 }
 
 pub fn sides_product(
     shares: [u32; Params::MOST],
     n: usize,
-    k: Bounds,
+    bounds: Bounds,
     cursor: Cursor,
     tape: &[u32],
 ) -> Shared
-    requires { ⌜ KindLaws k × Held 8 n (wide k) shares ⌝ }
-    ensures { λ r. ⌜ Gave n q r (run (sidesProduct k (take n shares)) (now (tape .entry)) cursor) ⌝ }
+    requires { ⌜ KindLaws bounds × Held 8 n (wide bounds) shares ⌝ }
+    ensures { λ r. ⌜ Gave n q r (run (sidesProduct bounds (take n shares)) (now (tape .entry)) cursor) ⌝ }
 {
-    let left = side(shares, n, k, cursor, tape);
+    let left = side(shares, n, bounds, cursor, tape);
     if !left.ok {
         return Shared::ended();
     }
     let x = left.words;
     let c = left.cursor;
-    let right = side(negated(shares, wide(k)), n, k, c, tape);
+    let right = side(negated(shares, wide(bounds)), n, bounds, c, tape);
     if !right.ok {
         return Shared::ended();
     }

@@ -12,9 +12,9 @@ use Rattle.sizes.specs.ZeroTest.{scalesPlan}
 use Rattle.sizes.specs.Verdict.{frontPlan, verdictPlan}
 
 -- the draws of a verdict are those before the zero test, and its own
-pub verdict-parts : (k : Bounds) (n : ℕ) (rs : List ℕ) → Fits (verdictPlan k n) rs → FitBoth (frontPlan k n) (scalesPlan q n n) rs
+pub verdict-parts : (bounds : Bounds) (n : ℕ) (rs : List ℕ) → Fits (verdictPlan bounds n) rs → FitBoth (frontPlan bounds n) (scalesPlan q n n) rs
 unfolding verdictPlan
-verdict-parts k n rs f = fits-split (frontPlan k n) f
+verdict-parts bounds n rs f = fits-split (frontPlan bounds n) f
 
 pub drop-front : {ms cs : List ℕ} (ds : List ℕ) → Fits ms cs → drop (length ms) (cs ++ ds) ≡ ds
 drop-front {ms} {cs} ds f = ap (λ (m : ℕ). drop m (cs ++ ds)) (sym (fits-length f)) ∙ drop-append-seam cs ds

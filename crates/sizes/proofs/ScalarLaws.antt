@@ -27,26 +27,26 @@ use Rattle.sizes.specs.LastScalar.{lastScalarMarks}
 use Rattle.sizes.proofs.ZeroLaws.{scales-last, Scales, scales-parts, before-length, scalars-last, scalars-not-zero}
 use Rattle.sizes.proofs.PartLaws.{verdict-parts, drop-front}
 
-module _ (k : Bounds) (n : ℕ) (few : 0 < n) where
+module _ (bounds : Bounds) (n : ℕ) (few : 0 < n) where
   -- the draws before the last scalar's
   abbrev pub earlier : List ℕ
-  earlier = frontPlan k n ++ scalesPlan q n (n - 1)
+  earlier = frontPlan bounds n ++ scalesPlan q n (n - 1)
 
   -- then that one, and those of the last refresh
-  pub plan-last : verdictPlan k n ≡ earlier ++ ((q - 1) ∷ replicate (n - 1) q)
+  pub plan-last : verdictPlan bounds n ≡ earlier ++ ((q - 1) ∷ replicate (n - 1) q)
   unfolding verdictPlan scalePlan refreshPlan
   plan-last =
       let one : suc (n - 1) ≡ n = omega arith in
-      ap (λ (m : ℕ). frontPlan k n ++ scalesPlan q n m) (sym one) ∙ ap (frontPlan k n ++_) (scales-last q n (n - 1)) ∙ sym (append-assoc (frontPlan k n) (scalesPlan q n (n - 1)) (scalePlan q n))
+      ap (λ (m : ℕ). frontPlan bounds n ++ scalesPlan q n m) (sym one) ∙ ap (frontPlan bounds n ++_) (scales-last q n (n - 1)) ∙ sym (append-assoc (frontPlan bounds n) (scalesPlan q n (n - 1)) (scalePlan q n))
 
   -- one draw below q − 1 is marked
-  pub is-last : Marks (lastScalarMarks k n) (verdictPlan k n) 1 (q - 1)
+  pub is-last : Marks (lastScalarMarks bounds n) (verdictPlan bounds n) 1 (q - 1)
   unfolding lastScalarMarks marked
-  is-last = ap (marked (lastScalarMarks k n)) plan-last ∙ marked-after earlier earlier ((q - 1) ∷ replicate (n - 1) q) (true ∷ []) refl
+  is-last = ap (marked (lastScalarMarks bounds n)) plan-last ∙ marked-after earlier earlier ((q - 1) ∷ replicate (n - 1) q) (true ∷ []) refl
 
-  module _ (rs : List ℕ) (f : Fits (verdictPlan k n) rs) where
-    parts : FitBoth (frontPlan k n) (scalesPlan q n n) rs
-    parts = verdict-parts k n rs f
+  module _ (rs : List ℕ) (f : Fits (verdictPlan bounds n) rs) where
+    parts : FitBoth (frontPlan bounds n) (scalesPlan q n n) rs
+    parts = verdict-parts bounds n rs f
 
     last : Scales q n (n - 1) (parts .snd)
     last = let one : n ≡ suc (n - 1) = omega arith in scales-parts q n (n - 1) (parts .snd) (subst (λ (m : ℕ). Fits (scalesPlan q n m) (parts .snd)) one (parts .fit-snd))
@@ -63,35 +63,35 @@ module _ (k : Bounds) (n : ℕ) (few : 0 < n) where
     with-last : ℕ → List ℕ
     with-last u = parts .fst ++ (last .before ++ (u ∷ last .fresh))
 
-    merged-last : (u : ℕ) → merged (lastScalarMarks k n) rs (u ∷ []) ≡ with-last u
+    merged-last : (u : ℕ) → merged (lastScalarMarks bounds n) rs (u ∷ []) ≡ with-last u
     unfolding lastScalarMarks merged with-last
     merged-last u =
-        ap (λ (l : List ℕ). merged (lastScalarMarks k n) l (u ∷ [])) (parts .all ∙ ap (parts .fst ++_) (last .all) ∙ sym (append-assoc (parts .fst) (last .before) (last .scalar ∷ last .fresh)))
+        ap (λ (l : List ℕ). merged (lastScalarMarks bounds n) l (u ∷ [])) (parts .all ∙ ap (parts .fst ++_) (last .all) ∙ sym (append-assoc (parts .fst) (last .before) (last .scalar ∷ last .fresh)))
         ∙ merged-after (true ∷ []) (last .scalar ∷ last .fresh) (u ∷ []) (fits-both (parts .fit-fst) (last .fit-before))
         ∙ append-assoc (parts .fst) (last .before) (u ∷ last .fresh)
 
     -- what is opened goes by the last scalar
-    opens : (z : ℤ) (u : ℕ) → openedOf k n z (merged (lastScalarMarks k n) rs (u ∷ [])) ≡ leftOf k z * rightOf k z * s * (u + 1) % q
+    opens : (z : ℤ) (u : ℕ) → openedOf bounds n z (merged (lastScalarMarks bounds n) rs (u ∷ [])) ≡ leftOf bounds z * rightOf bounds z * s * (u + 1) % q
     unfolding openedOf with-last s
     opens z u =
         let one : suc (n - 1) ≡ n = omega arith in
-        let zero-test : drop (length (frontPlan k n)) (with-last u) ≡ last .before ++ (u ∷ last .fresh) = drop-front (last .before ++ (u ∷ last .fresh)) (parts .fit-fst) in
+        let zero-test : drop (length (frontPlan bounds n)) (with-last u) ≡ last .before ++ (u ∷ last .fresh) = drop-front (last .before ++ (u ∷ last .fresh)) (parts .fit-fst) in
         let scalars : scalarsOf n (last .before ++ (u ∷ last .fresh)) n ≡ s * (u + 1) =
         ap (scalarsOf n (last .before ++ (u ∷ last .fresh))) (sym one) ∙ scalars-last few (n - 1) u (last .before) (last .fresh) (before-length few last) in
-        ap (λ (l : List ℕ). leftOf k z * rightOf k z * scalarsOf n (drop (length (frontPlan k n)) l) n % q) (merged-last u)
-        ∙ ap (λ (l : List ℕ). leftOf k z * rightOf k z * scalarsOf n l n % q) zero-test
+        ap (λ (l : List ℕ). leftOf bounds z * rightOf bounds z * scalarsOf n (drop (length (frontPlan bounds n)) l) n % q) (merged-last u)
+        ∙ ap (λ (l : List ℕ). leftOf bounds z * rightOf bounds z * scalarsOf n l n % q) zero-test
         ∙ rw scalars (ap (λ (y : ℕ). y % q) (omega arith))
 
     -- from sides whose product is not zero exactly one last scalar leads to c
-    module _ (z : ℤ) (c : ℕ) (sides : (leftOf k z * rightOf k z) % q ≢ 0) (below : c < q) (some : c ≢ 0) where
+    module _ (z : ℤ) (c : ℕ) (sides : (leftOf bounds z * rightOf bounds z) % q ≢ 0) (below : c < q) (some : c ≢ 0) where
       v : ℕ
-      v = leftOf k z * rightOf k z * s
+      v = leftOf bounds z * rightOf bounds z * s
 
       g : OneFactor q v c
       unfolding v
-      g = one-factor q-prime (leftOf k z * rightOf k z * s) c (no-zero q-prime (leftOf k z * rightOf k z) s sides s-not-zero) below some
+      g = one-factor q-prime (leftOf bounds z * rightOf bounds z * s) c (no-zero q-prime (leftOf bounds z * rightOf bounds z) s sides s-not-zero) below some
 
-      alone : (us : List ℕ) → Words 1 (q - 1) us → openedOf k n z (merged (lastScalarMarks k n) rs us) ≡ c → us ≡ (g .factor - 1) ∷ []
+      alone : (us : List ℕ) → Words 1 (q - 1) us → openedOf bounds n z (merged (lastScalarMarks bounds n) rs us) ≡ c → us ≡ (g .factor - 1) ∷ []
       unfolding v
       alone [] w e = absurd (omega (arith, w .size))
       alone (u ∷ []) w e =
@@ -99,13 +99,13 @@ module _ (k : Bounds) (n : ℕ) (few : 0 < n) where
           ap (λ (y : ℕ). y ∷ []) (omega arith)
       alone (u ∷ x ∷ us) w e = absurd (omega (arith, w .size))
 
-      pub one-last-scalar : ExactlyOne 1 (q - 1) (λ us. openedOf k n z (merged (lastScalarMarks k n) rs us) ≡ c)
+      pub one-last-scalar : ExactlyOne 1 (q - 1) (λ us. openedOf bounds n z (merged (lastScalarMarks bounds n) rs us) ≡ c)
       unfolding v
       one-last-scalar =
           let back : g .factor - 1 + 1 ≡ g .factor = omega (arith, g .least) in
           record {
             setting = (g .factor - 1) ∷ [];
             words = words-cons (omega (arith, g .least, g .most)) words-none;
-            works = opens z (g .factor - 1) ∙ ap (λ (y : ℕ). leftOf k z * rightOf k z * s * y % q) back ∙ g .leads;
+            works = opens z (g .factor - 1) ∙ ap (λ (y : ℕ). leftOf bounds z * rightOf bounds z * s * y % q) back ∙ g .leads;
             only = alone;
           }

@@ -23,31 +23,31 @@ use Rattle.sizes.specs.Product.{product}
 use Rattle.sizes.specs.Sides.{side, sidesProduct}
 
 -- ---- a side
-module _ {k : Bounds} (h : KindLaws k) where
-  pub bound-wide : k .a < wide k
+module _ {bounds : Bounds} (h : KindLaws bounds) where
+  pub bound-wide : bounds .a < wide bounds
   bound-wide = omega (arith, bound-below h, wide-least h)
 
-  pub side-held : {n : ℕ} {ws : List ℕ} → Held 8 n (wide k) ws → Held 8 n (wide k) (takeFromFirst (widened k) (k .a) ws)
-  side-held a = held-of a (taken-words (widened k) (k .a) (omega (arith, a .two)) bound-wide (a .all))
+  pub side-held : {n : ℕ} {ws : List ℕ} → Held 8 n (wide bounds) ws → Held 8 n (wide bounds) (takeFromFirst (widened bounds) (bounds .a) ws)
+  side-held a = held-of a (taken-words (widened bounds) (bounds .a) (omega (arith, a .two)) bound-wide (a .all))
 
 -- ---- both sides and their product
-module _ (k : Bounds) (ws tape : List ℕ) (p : Cursor) where
-  pub left-ended : run (side k ws) tape p ≡ ended → ended ≡ run (sidesProduct k ws) tape p
+module _ (bounds : Bounds) (ws tape : List ℕ) (p : Cursor) where
+  pub left-ended : run (side bounds ws) tape p ≡ ended → ended ≡ run (sidesProduct bounds ws) tape p
   unfolding sidesProduct
-  left-ended e = sym (bind-ended (side k ws) _ tape p e)
+  left-ended e = sym (bind-ended (side bounds ws) _ tape p e)
 
-  module _ (left : List ℕ) {c : Cursor} (l : run (side k ws) tape p ≡ ran left c) where
-    pub right-ended : run (side k (negated (wide k) ws)) tape c ≡ ended → ended ≡ run (sidesProduct k ws) tape p
+  module _ (left : List ℕ) {c : Cursor} (l : run (side bounds ws) tape p ≡ ran left c) where
+    pub right-ended : run (side bounds (negated (wide bounds) ws)) tape c ≡ ended → ended ≡ run (sidesProduct bounds ws) tape p
     unfolding sidesProduct
-    right-ended e = sym (bind-ran (side k ws) _ tape p left c l ∙ bind-ended (side k (negated (wide k) ws)) _ tape c e)
+    right-ended e = sym (bind-ran (side bounds ws) _ tape p left c l ∙ bind-ended (side bounds (negated (wide bounds) ws)) _ tape c e)
 
-    module _ (right : List ℕ) {d : Cursor} (r : run (side k (negated (wide k) ws)) tape c ≡ ran right d) where
-      to-refresh : run (sidesProduct k ws) tape p ≡ run (bind (refresh (arithmetic q) left) (λ fresh. product q fresh right)) tape d
+    module _ (right : List ℕ) {d : Cursor} (r : run (side bounds (negated (wide bounds) ws)) tape c ≡ ran right d) where
+      to-refresh : run (sidesProduct bounds ws) tape p ≡ run (bind (refresh (arithmetic q) left) (λ fresh. product q fresh right)) tape d
       unfolding sidesProduct
-      to-refresh = bind-ran (side k ws) _ tape p left c l ∙ bind-ran (side k (negated (wide k) ws)) _ tape c right d r
+      to-refresh = bind-ran (side bounds ws) _ tape p left c l ∙ bind-ran (side bounds (negated (wide bounds) ws)) _ tape c right d r
 
-      pub fresh-ended : run (refresh (arithmetic q) left) tape d ≡ ended → ended ≡ run (sidesProduct k ws) tape p
+      pub fresh-ended : run (refresh (arithmetic q) left) tape d ≡ ended → ended ≡ run (sidesProduct bounds ws) tape p
       fresh-ended e = sym (to-refresh ∙ bind-ended (refresh (arithmetic q) left) _ tape d e)
 
-      pub to-product : (fresh : List ℕ) {e : Cursor} → run (refresh (arithmetic q) left) tape d ≡ ran fresh e → run (product q fresh right) tape e ≡ run (sidesProduct k ws) tape p
+      pub to-product : (fresh : List ℕ) {e : Cursor} → run (refresh (arithmetic q) left) tape d ≡ ran fresh e → run (product q fresh right) tape e ≡ run (sidesProduct bounds ws) tape p
       to-product fresh {e} f = sym (to-refresh ∙ bind-ran (refresh (arithmetic q) left) _ tape d fresh e f)

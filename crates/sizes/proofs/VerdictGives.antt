@@ -53,52 +53,52 @@ pub record Opens (o : Outcome) : Type 0 where
   pub below : number < q
   pub is : o ≡ judged number
 
-module _ {k : Bounds} (h : KindLaws k) {n : ℕ} (few : 0 < n) where
-  some : 0 < wide k
+module _ {bounds : Bounds} (h : KindLaws bounds) {n : ℕ} (few : 0 < n) where
+  some : 0 < wide bounds
   some = omega (arith, wide-two h)
 
   -- a side of widened shares recombines to the side of any number z that has their value for its residue: left to that of z, right to that of −z
-  pub side-gives : (z : ℤ) (ws : List ℕ) → Shares (widened k) n (residue (wide k) z) ws → Gives (Shares (arithmetic q) n (sideOf k z)) (side k ws) (shiftPlan q (k .rho) n)
+  pub side-gives : (z : ℤ) (ws : List ℕ) → Shares (widened bounds) n (residue (wide bounds) z) ws → Gives (Shares (arithmetic q) n (sideOf bounds z)) (side bounds ws) (shiftPlan q (bounds .rho) n)
   unfolding side sideOf
   side-gives z ws a =
-      rw (residue-less (wide k) some z (k .a))
-      (shift-floor q (k .rho) n _ (takeFromFirst (widened k) (k .a) ws) (omega arith) few (taken-first (widened k) (k .a) some (bound-wide h) few a))
+      rw (residue-less (wide bounds) some z (bounds .a))
+      (shift-floor q (bounds .rho) n _ (takeFromFirst (widened bounds) (bounds .a) ws) (omega arith) few (taken-first (widened bounds) (bounds .a) some (bound-wide h) few a))
 
-  pub sides-give : (z : ℤ) (ws : List ℕ) → Shares (widened k) n (residue (wide k) z) ws → Gives (Shares (arithmetic q) n (leftOf k z * rightOf k z % q)) (sidesProduct k ws) (sidesPlan k n)
+  pub sides-give : (z : ℤ) (ws : List ℕ) → Shares (widened bounds) n (residue (wide bounds) z) ws → Gives (Shares (arithmetic q) n (leftOf bounds z * rightOf bounds z % q)) (sidesProduct bounds ws) (sidesPlan bounds n)
   unfolding sidesProduct sidesPlan leftOf rightOf
   sides-give z ws a =
       gives-bind _ _ (side-gives z ws a) (λ left l.
-      gives-bind _ _ (side-gives (negℤ z) (negated (wide k) ws) (rw (residue-negated (wide k) some z) (negated-value (wide k) some a))) (λ right r.
-      gives-bind _ _ (refresh-keeps (arithmetic q) (omega arith) (sideOf k z) left few l) (λ fresh f. product-gives (omega arith) fresh right f r)))
+      gives-bind _ _ (side-gives (negℤ z) (negated (wide bounds) ws) (rw (residue-negated (wide bounds) some z) (negated-value (wide bounds) some a))) (λ right r.
+      gives-bind _ _ (refresh-keeps (arithmetic q) (omega arith) (sideOf bounds z) left few l) (λ fresh f. product-gives (omega arith) fresh right f r)))
 
   -- what stands before the zero test, of shares of x: within the reach, the product of the sides of the number that x means
   record Front (x : ℕ) (ps : List ℕ) : Type 0 where
     words : Words n q ps
-    product : natAbs (centred q x) ≤ k .b → value (arithmetic q) ps ≡ leftOf k (centred q x) * rightOf k (centred q x) % q
+    product : natAbs (centred q x) ≤ bounds .b → value (arithmetic q) ps ≡ leftOf bounds (centred q x) * rightOf bounds (centred q x) % q
 
   front : List ℕ → Draws (List ℕ)
-  front xs = bind (widen k xs) (sidesProduct k)
+  front xs = bind (widen bounds xs) (sidesProduct bounds)
 
-  front-gives : (x : ℕ) (xs : List ℕ) → Shares (arithmetic q) n x xs → Gives (Front x) (front xs) (frontPlan k n)
+  front-gives : (x : ℕ) (xs : List ℕ) → Shares (arithmetic q) n x xs → Gives (Front x) (front xs) (frontPlan bounds n)
   unfolding front frontPlan
   front-gives x xs a =
-      gives-bind (sidesProduct k) (sidesPlan k n) (widen-gives h n x xs few a) (λ ws w.
-      let y : ℕ = value (widened k) ws in
-      let z : ℤ = centred (wide k) y in
-      let s : Shares (widened k) n y ws = record { words = w .words; is = refl } in
-      let is : y ≡ residue (wide k) z = sym (residue-centred (wide k) some y (value-below (widened k) some s)) in
-      gives-as (λ ps p. record { words = p .words; product = λ i. p .is ∙ ap (λ (u : ℤ). leftOf k u * rightOf k u % q) (w .kept i) })
+      gives-bind (sidesProduct bounds) (sidesPlan bounds n) (widen-gives h n x xs few a) (λ ws w.
+      let y : ℕ = value (widened bounds) ws in
+      let z : ℤ = centred (wide bounds) y in
+      let s : Shares (widened bounds) n y ws = record { words = w .words; is = refl } in
+      let is : y ≡ residue (wide bounds) z = sym (residue-centred (wide bounds) some y (value-below (widened bounds) some s)) in
+      gives-as (λ ps p. record { words = p .words; product = λ i. p .is ∙ ap (λ (u : ℤ). leftOf bounds u * rightOf bounds u % q) (w .kept i) })
       (sides-give z ws (record { words = w .words; is = is })))
 
   -- the whole, grouped so
-  verdict-is : (xs : List ℕ) → verdict k xs ≡ bind (front xs) (λ ps. bind (zeroTest q ps) (λ ts. done (judged (value (arithmetic q) ts))))
+  verdict-is : (xs : List ℕ) → verdict bounds xs ≡ bind (front xs) (λ ps. bind (zeroTest q ps) (λ ts. done (judged (value (arithmetic q) ts))))
   unfolding verdict tested front
   verdict-is xs =
-      ap (λ d. bind d (λ ts. done (judged (value (arithmetic q) ts)))) (sym (bind-assoc (widen k xs) (sidesProduct k) (zeroTest q)))
-      ∙ bind-assoc (bind (widen k xs) (sidesProduct k)) (zeroTest q) _
+      ap (λ d. bind d (λ ts. done (judged (value (arithmetic q) ts)))) (sym (bind-assoc (widen bounds xs) (sidesProduct bounds) (zeroTest q)))
+      ∙ bind-assoc (bind (widen bounds xs) (sidesProduct bounds)) (zeroTest q) _
 
   -- the verdict makes the planned draws
-  pub verdict-gives : (x : ℕ) (xs : List ℕ) → Shares (arithmetic q) n x xs → Gives Opens (verdict k xs) (verdictPlan k n)
+  pub verdict-gives : (x : ℕ) (xs : List ℕ) → Shares (arithmetic q) n x xs → Gives Opens (verdict bounds xs) (verdictPlan bounds n)
   unfolding verdictPlan
   verdict-gives x xs a =
       rw (verdict-is xs)
@@ -107,24 +107,24 @@ module _ {k : Bounds} (h : KindLaws k) {n : ℕ} (few : 0 < n) where
       (λ ts w. record { number = sum ts % q; below = mod-lt (sum ts) (omega arith); is = refl })))
 
   -- the draws of a call: those before the zero test, and its own
-  module _ (x : ℕ) (xs : List ℕ) (a : Shares (arithmetic q) n x xs) (within : natAbs (centred q x) ≤ k .b) (rs : List ℕ) (f : Fits (verdictPlan k n) rs) where
+  module _ (x : ℕ) (xs : List ℕ) (a : Shares (arithmetic q) n x xs) (within : natAbs (centred q x) ≤ bounds .b) (rs : List ℕ) (f : Fits (verdictPlan bounds n) rs) where
     abbrev z : ℤ
     z = centred q x
 
-    parts : FitBoth (frontPlan k n) (scalesPlan q n n) rs
-    parts = verdict-parts k n rs f
+    parts : FitBoth (frontPlan bounds n) (scalesPlan q n n) rs
+    parts = verdict-parts bounds n rs f
 
-    zero-draws : drop (length (frontPlan k n)) rs ≡ parts .snd
-    zero-draws = ap (drop (length (frontPlan k n))) (parts .all) ∙ drop-front (parts .snd) (parts .fit-fst)
+    zero-draws : drop (length (frontPlan bounds n)) rs ≡ parts .snd
+    zero-draws = ap (drop (length (frontPlan bounds n))) (parts .all) ∙ drop-front (parts .snd) (parts .fit-fst)
 
     -- the verdict opens what its draws make of the number
-    pub verdict-feed : feed (verdict k xs) rs ≡ judged (openedOf k n z rs)
+    pub verdict-feed : feed (verdict bounds xs) rs ≡ judged (openedOf bounds n z rs)
     unfolding openedOf
     verdict-feed =
         let g = front-gives x xs a in
         let ps : List ℕ = feed (front xs) (parts .fst) in
         let p : Front x ps = always-feed (g .plan) (g .always) (parts .fst) (parts .fit-fst) in
-        let v : ℕ = leftOf k z * rightOf k z in
+        let v : ℕ = leftOf bounds z * rightOf bounds z in
         let t = zero-test-feed (omega arith) few (v % q) ps (parts .snd) (record { words = p .words; is = p .product within }) (parts .fit-snd) in
         let s : ℕ = scalarsOf n (parts .snd) n in
         let same : Cong q (v % q * s) (v * s) = cong-mul cong-mod cong-refl in
@@ -134,20 +134,20 @@ module _ {k : Bounds} (h : KindLaws k) {n : ℕ} (few : 0 < n) where
         ∙ ap judged (t .is ∙ same .eq ∙ ap (λ (l : List ℕ). v * scalarsOf n l n % q) (sym zero-draws))
 
     -- so zero is opened exactly where the size is not below the bound
-    pub rejected-opens : accepted k z ≡ false → openedOf k n z rs ≡ 0
+    pub rejected-opens : accepted bounds z ≡ false → openedOf bounds n z rs ≡ 0
     unfolding openedOf
-    rejected-opens e = zero-product q (leftOf k z * rightOf k z) _ (inl (rejected-zero h z within e))
+    rejected-opens e = zero-product q (leftOf bounds z * rightOf bounds z) _ (inl (rejected-zero h z within e))
 
-    pub accepted-opens : accepted k z ≡ true → openedOf k n z rs ≢ 0
+    pub accepted-opens : accepted bounds z ≡ true → openedOf bounds n z rs ≢ 0
     unfolding openedOf
     accepted-opens e =
-        no-zero q-prime (leftOf k z * rightOf k z) _ (accepted-not-zero h z within e)
+        no-zero q-prime (leftOf bounds z * rightOf bounds z) _ (accepted-not-zero h z within e)
         (subst (λ (l : List ℕ). scalarsOf n l n % q ≢ 0) (sym zero-draws) (scalars-not-zero q-prime n n few (parts .snd) (parts .fit-snd)))
 
-    pub verdict-right : verdictOf (openedOf k n z rs) ≡ pick (accepted k z) 1 0
+    pub verdict-right : verdictOf (openedOf bounds n z rs) ≡ pick (accepted bounds z) 1 0
     unfolding verdictOf
-    verdict-right = go (accepted k z) refl
+    verdict-right = go (accepted bounds z) refl
       where
-        go : (b : Bool) → accepted k z ≡ b → verdictOf (openedOf k n z rs) ≡ pick (accepted k z) 1 0
-        go true e = rw (e, ne-eqb (openedOf k n z rs) 0 (accepted-opens e))
-        go false e = rw (e, eq-eqb (openedOf k n z rs) 0 (rejected-opens e))
+        go : (b : Bool) → accepted bounds z ≡ b → verdictOf (openedOf bounds n z rs) ≡ pick (accepted bounds z) 1 0
+        go true e = rw (e, ne-eqb (openedOf bounds n z rs) 0 (accepted-opens e))
+        go false e = rw (e, eq-eqb (openedOf bounds n z rs) 0 (rejected-opens e))

@@ -13,16 +13,16 @@ use Rattle.sizes.specs.ZeroTest.{zeroTest}
 use Rattle.sizes.specs.Sides.{sidesProduct}
 use Rattle.sizes.specs.Verdict.{tested}
 
-module _ (k : Bounds) (xs tape : List ℕ) (p : Cursor) where
-  pub widen-stops : run (widen k xs) tape p ≡ ended → ended ≡ run (tested k xs) tape p
+module _ (bounds : Bounds) (xs tape : List ℕ) (p : Cursor) where
+  pub widen-stops : run (widen bounds xs) tape p ≡ ended → ended ≡ run (tested bounds xs) tape p
   unfolding tested
-  widen-stops e = sym (bind-ended (widen k xs) _ tape p e)
+  widen-stops e = sym (bind-ended (widen bounds xs) _ tape p e)
 
-  module _ (ws : List ℕ) {c : Cursor} (w : run (widen k xs) tape p ≡ ran ws c) where
-    pub sides-stop : run (sidesProduct k ws) tape c ≡ ended → ended ≡ run (tested k xs) tape p
+  module _ (ws : List ℕ) {c : Cursor} (w : run (widen bounds xs) tape p ≡ ran ws c) where
+    pub sides-stop : run (sidesProduct bounds ws) tape c ≡ ended → ended ≡ run (tested bounds xs) tape p
     unfolding tested
-    sides-stop e = sym (bind-ran (widen k xs) _ tape p ws c w ∙ bind-ended (sidesProduct k ws) (zeroTest q) tape c e)
+    sides-stop e = sym (bind-ran (widen bounds xs) _ tape p ws c w ∙ bind-ended (sidesProduct bounds ws) (zeroTest q) tape c e)
 
-    pub to-zero-test : (ps : List ℕ) {d : Cursor} → run (sidesProduct k ws) tape c ≡ ran ps d → run (zeroTest q ps) tape d ≡ run (tested k xs) tape p
+    pub to-zero-test : (ps : List ℕ) {d : Cursor} → run (sidesProduct bounds ws) tape c ≡ ran ps d → run (zeroTest q ps) tape d ≡ run (tested bounds xs) tape p
     unfolding tested
-    to-zero-test ps {d} e = sym (bind-ran (widen k xs) _ tape p ws c w ∙ bind-ran (sidesProduct k ws) (zeroTest q) tape c ps d e)
+    to-zero-test ps {d} e = sym (bind-ran (widen bounds xs) _ tape p ws c w ∙ bind-ran (sidesProduct bounds ws) (zeroTest q) tape c ps d e)

@@ -39,86 +39,86 @@ floor-room Q α d X some few h =
     omega arith
 
 -- what widening gives of shares of x
-pub record Widened (k : Bounds) (n x : ℕ) (ys : List ℕ) : Type 0 where
-  pub words : Words n (wide k) ys
-  pub kept : natAbs (centred q x) ≤ k .b → centred (wide k) (value (widened k) ys) ≡ centred q x
+pub record Widened (bounds : Bounds) (n x : ℕ) (ys : List ℕ) : Type 0 where
+  pub words : Words n (wide bounds) ys
+  pub kept : natAbs (centred q x) ≤ bounds .b → centred (wide bounds) (value (widened bounds) ys) ≡ centred q x
 
-module _ {k : Bounds} (h : KindLaws k) (d x : ℕ) {xs : List ℕ} (a : Shares (arithmetic q) (suc d) x xs) where
+module _ {bounds : Bounds} (h : KindLaws bounds) (d x : ℕ) {xs : List ℕ} (a : Shares (arithmetic q) (suc d) x xs) where
   t : ℕ
   t = widenShift (suc d)
 
   ys : List ℕ
-  ys = addToFirst (arithmetic q) (k .b) xs
+  ys = addToFirst (arithmetic q) (bounds .b) xs
 
   -- b added
-  offset : Shares (arithmetic q) (suc d) (addMod q x (k .b)) ys
+  offset : Shares (arithmetic q) (suc d) (addMod q x (bounds .b)) ys
   unfolding ys
-  offset = added-first (arithmetic q) (k .b) (omega arith) (reach-below h) (omega arith) a
+  offset = added-first (arithmetic q) (bounds .b) (omega arith) (reach-below h) (omega arith) a
 
   steps : Draws (List ℕ)
-  steps = bind (carries (2 ^ k .rho) t (2 ^ t) q ys) (λ es. done (takeFromFirst (widened k) (k .b) (without (wide k) q es ys)))
+  steps = bind (carries (2 ^ bounds .rho) t (2 ^ t) q ys) (λ es. done (takeFromFirst (widened bounds) (bounds .b) (without (wide bounds) q es ys)))
 
   -- outside the reach: the words alone
-  beyond : ¬ (natAbs (centred q x) ≤ k .b) → Gives (Widened k (suc d) x) steps (widenPlan k (suc d))
+  beyond : ¬ (natAbs (centred q x) ≤ bounds .b) → Gives (Widened bounds (suc d) x) steps (widenPlan bounds (suc d))
   unfolding steps t widenPlan
   beyond out =
-      gives-map (Widened k (suc d) x) (λ es. takeFromFirst (widened k) (k .b) (without (wide k) q es ys))
-      (carries-give d (2 ^ k .rho) t (2 ^ t) q q 1 ys (pow-pos (k .rho)) (omega arith) (sym (mul-one (q * 2 ^ t))) (offset .words) .shares)
+      gives-map (Widened bounds (suc d) x) (λ es. takeFromFirst (widened bounds) (bounds .b) (without (wide bounds) q es ys))
+      (carries-give d (2 ^ bounds .rho) t (2 ^ t) q q 1 ys (pow-pos (bounds .rho)) (omega arith) (sym (mul-one (q * 2 ^ t))) (offset .words) .shares)
       (λ es s. record {
-        words = taken-words (widened k) (k .b) (omega (arith, wide-two h)) (reach-wide h) (without-words (wide k) q es (omega (arith, wide-two h)) (offset .words));
+        words = taken-words (widened bounds) (bounds .b) (omega (arith, wide-two h)) (reach-wide h) (without-words (wide bounds) q es (omega (arith, wide-two h)) (offset .words));
         kept = λ i. absurd (out i);
       })
 
   -- within it: the value too
-  module _ (i : natAbs (centred q x) ≤ k .b) where
+  module _ (i : natAbs (centred q x) ≤ bounds .b) where
     X : ℕ
-    X = addMod q x (k .b)
+    X = addMod q x (bounds .b)
 
-    X-most : X ≤ 2 * k .b
+    X-most : X ≤ 2 * bounds .b
     unfolding X
-    X-most = reach-most q (k .b) x (value-below (arithmetic q) (omega arith) a) (omega (arith, h .quarter)) i
+    X-most = reach-most q (bounds .b) x (value-below (arithmetic q) (omega arith) a) (omega (arith, h .quarter)) i
 
-    X-is : pos X -ℤ pos (k .b) ≡ centred q x
+    X-is : pos X -ℤ pos (bounds .b) ≡ centred q x
     unfolding X
-    X-is = reach-is q (k .b) x (value-below (arithmetic q) (omega arith) a) (omega (arith, h .quarter)) i
+    X-is = reach-is q (bounds .b) x (value-below (arithmetic q) (omega arith) a) (omega (arith, h .quarter)) i
 
-    X-small : X % wide k ≡ X
+    X-small : X % wide bounds ≡ X
     X-small = mod-eq-of-lt (omega (arith, X-most, h .quarter, wide-least h))
 
     room : sum ys % q * 2 ^ t / q + d < 2 ^ t
     unfolding t X
     room = subst (λ (y : ℕ). y * 2 ^ t / q + d < 2 ^ t) (sym (offset .is)) (floor-room q (alpha (suc d)) d X (omega arith) (omega (arith, alpha-smallest (suc d) .holds)) (omega (arith, X-most, h .quarter)))
 
-    switched : Gives (Shares (widened k) (suc d) X) (bind (carries (2 ^ k .rho) t (2 ^ t) q ys) (λ es. done (without (wide k) q es ys))) (widenPlan k (suc d))
+    switched : Gives (Shares (widened bounds) (suc d) X) (bind (carries (2 ^ bounds .rho) t (2 ^ t) q ys) (λ es. done (without (wide bounds) q es ys))) (widenPlan bounds (suc d))
     unfolding widenPlan t X
     switched =
-        subst (λ (y : ℕ). Gives (Shares (widened k) (suc d) y) (bind (carries (2 ^ k .rho) t (2 ^ t) q ys) (λ es. done (without (wide k) q es ys))) (widenPlan k (suc d)))
-        (ap (λ (y : ℕ). y % wide k) (offset .is) ∙ X-small)
-        (switch-keeps d (2 ^ k .rho) t (2 ^ t) q q (wide k) 1 ys (pow-pos (k .rho)) (omega arith) (omega (arith, wide-two h)) refl (mul-comm q (2 ^ k .rho) ∙ sym (mul-one (wide k))) room (offset .words))
+        subst (λ (y : ℕ). Gives (Shares (widened bounds) (suc d) y) (bind (carries (2 ^ bounds .rho) t (2 ^ t) q ys) (λ es. done (without (wide bounds) q es ys))) (widenPlan bounds (suc d)))
+        (ap (λ (y : ℕ). y % wide bounds) (offset .is) ∙ X-small)
+        (switch-keeps d (2 ^ bounds .rho) t (2 ^ t) q q (wide bounds) 1 ys (pow-pos (bounds .rho)) (omega arith) (omega (arith, wide-two h)) refl (mul-comm q (2 ^ bounds .rho) ∙ sym (mul-one (wide bounds))) room (offset .words))
 
-    within : Gives (Widened k (suc d) x) steps (widenPlan k (suc d))
+    within : Gives (Widened bounds (suc d) x) steps (widenPlan bounds (suc d))
     unfolding steps bind
     within =
-        subst (λ p. Gives (Widened k (suc d) x) p (widenPlan k (suc d)))
-        (bind-assoc (carries (2 ^ k .rho) t (2 ^ t) q ys) (λ es. done (without (wide k) q es ys)) (λ zs. done (takeFromFirst (widened k) (k .b) zs)))
-        (gives-map (Widened k (suc d) x) (takeFromFirst (widened k) (k .b)) switched
+        subst (λ p. Gives (Widened bounds (suc d) x) p (widenPlan bounds (suc d)))
+        (bind-assoc (carries (2 ^ bounds .rho) t (2 ^ t) q ys) (λ es. done (without (wide bounds) q es ys)) (λ zs. done (takeFromFirst (widened bounds) (bounds .b) zs)))
+        (gives-map (Widened bounds (suc d) x) (takeFromFirst (widened bounds) (bounds .b)) switched
         (λ zs s.
-        let w = taken-first (widened k) (k .b) (omega (arith, wide-two h)) (reach-wide h) (omega arith) s in
+        let w = taken-first (widened bounds) (bounds .b) (omega (arith, wide-two h)) (reach-wide h) (omega arith) s in
         record {
           words = w .words;
-          kept = λ j. ap (centred (wide k)) (w .is) ∙ centred-sub (wide k) X (k .b) (omega (arith, X-most, h .quarter, wide-least h)) (omega (arith, h .quarter, wide-least h)) ∙ X-is;
+          kept = λ j. ap (centred (wide bounds)) (w .is) ∙ centred-sub (wide bounds) X (bounds .b) (omega (arith, X-most, h .quarter, wide-least h)) (omega (arith, h .quarter, wide-least h)) ∙ X-is;
         }))
 
-  either : Gives (Widened k (suc d) x) (widen k xs) (widenPlan k (suc d))
+  either : Gives (Widened bounds (suc d) x) (widen bounds xs) (widenPlan bounds (suc d))
   unfolding widen steps t ys
-  either = rw (a .words .size) (go (decLe (natAbs (centred q x)) (k .b)))
+  either = rw (a .words .size) (go (decLe (natAbs (centred q x)) (bounds .b)))
     where
-      go : Dec (natAbs (centred q x) ≤ k .b) → Gives (Widened k (suc d) x) steps (widenPlan k (suc d))
+      go : Dec (natAbs (centred q x) ≤ bounds .b) → Gives (Widened bounds (suc d) x) steps (widenPlan bounds (suc d))
       go (yes i) = within i
       go (no out) = beyond out
 
 -- widening makes the planned draws, and whatever they give, it keeps the value within the reach
-pub widen-gives : {k : Bounds} → KindLaws k → (n x : ℕ) (xs : List ℕ) → 0 < n → Shares (arithmetic q) n x xs → Gives (Widened k n x) (widen k xs) (widenPlan k n)
-widen-gives {k} h n x xs some a =
+pub widen-gives : {bounds : Bounds} → KindLaws bounds → (n x : ℕ) (xs : List ℕ) → 0 < n → Shares (arithmetic q) n x xs → Gives (Widened bounds n x) (widen bounds xs) (widenPlan bounds n)
+widen-gives {bounds} h n x xs some a =
     let one : suc (n - 1) ≡ n = omega arith in
-    subst (λ (m : ℕ). Gives (Widened k m x) (widen k xs) (widenPlan k m)) one (either h (n - 1) x (subst (λ (m : ℕ). Shares (arithmetic q) m x xs) (sym one) a))
+    subst (λ (m : ℕ). Gives (Widened bounds m x) (widen bounds xs) (widenPlan bounds m)) one (either h (n - 1) x (subst (λ (m : ℕ). Shares (arithmetic q) m x xs) (sym one) a))

@@ -34,49 +34,49 @@ share-below {factor} f h l = omega (arith, mul-le-mul-left q h)
 
 -- what is made of the shares with b added and of their carries
 unfoldable taken-off : Bounds → List ℕ → List ℕ → List ℕ
-taken-off k ys es = takeFromFirst (widened k) (k .b) (without (wide k) q es ys)
+taken-off bounds ys es = takeFromFirst (widened bounds) (bounds .b) (without (wide bounds) q es ys)
 
-whole-is : {n t : ℕ} (k : Bounds) (ws : List ℕ) → 0 < n → n ≤ length ws → t ≡ widenShift n →
-    let ys = take n (addToFirst (arithmetic q) (k .b) ws) in widen k (take n ws) ≡ bind (carries (2 ^ k .rho) t (2 ^ t) q ys) (λ es. done (taken-off k ys es))
+whole-is : {n t : ℕ} (bounds : Bounds) (ws : List ℕ) → 0 < n → n ≤ length ws → t ≡ widenShift n →
+    let ys = take n (addToFirst (arithmetic q) (bounds .b) ws) in widen bounds (take n ws) ≡ bind (carries (2 ^ bounds .rho) t (2 ^ t) q ys) (λ es. done (taken-off bounds ys es))
 unfolding widen taken-off
-whole-is {n} {t} k ws pos most is =
+whole-is {n} {t} bounds ws pos most is =
     let same : widenShift (length (take n ws)) ≡ t = ap widenShift (length-take-le n ws most) ∙ sym is in
-    rw (same, added-take (arithmetic q) (k .b) n ws pos)
+    rw (same, added-take (arithmetic q) (bounds .b) n ws pos)
 
-module _ {n t : ℕ} (k : Bounds) (ws tape : List ℕ) (p : Cursor) (pos : 0 < n) (most : n ≤ length ws) (is : t ≡ widenShift n) where
+module _ {n t : ℕ} (bounds : Bounds) (ws tape : List ℕ) (p : Cursor) (pos : 0 < n) (most : n ≤ length ws) (is : t ≡ widenShift n) where
   abbrev ys : List ℕ
-  ys = addToFirst (arithmetic q) (k .b) ws
+  ys = addToFirst (arithmetic q) (bounds .b) ws
 
-  pub widen-ended : run (carries (2 ^ k .rho) t (2 ^ t) q (take n ys)) tape p ≡ ended → ended ≡ run (widen k (take n ws)) tape p
-  widen-ended = part-ended _ _ tape p (whole-is k ws pos most is)
+  pub widen-ended : run (carries (2 ^ bounds .rho) t (2 ^ t) q (take n ys)) tape p ≡ ended → ended ≡ run (widen bounds (take n ws)) tape p
+  widen-ended = part-ended _ _ tape p (whole-is bounds ws pos most is)
 
-  pub widen-ran : (es : List ℕ) {c : Cursor} → run (carries (2 ^ k .rho) t (2 ^ t) q (take n ys)) tape p ≡ ran (take n es) c →
-      (ms : List ℕ) {rs : List ℕ} → take n ms ≡ without (wide k) q (take n es) (take n ys) → rs ≡ takeFromFirst (widened k) (k .b) ms → ran (take n rs) c ≡ run (widen k (take n ws)) tape p
+  pub widen-ran : (es : List ℕ) {c : Cursor} → run (carries (2 ^ bounds .rho) t (2 ^ t) q (take n ys)) tape p ≡ ran (take n es) c →
+      (ms : List ℕ) {rs : List ℕ} → take n ms ≡ without (wide bounds) q (take n es) (take n ys) → rs ≡ takeFromFirst (widened bounds) (bounds .b) ms → ran (take n rs) c ≡ run (widen bounds (take n ws)) tape p
   unfolding taken-off
   widen-ran es {c} e ms {rs} g f =
-      ap (λ xs. ran xs c) (ap (take n) f ∙ taken-take (widened k) (k .b) n ms pos ∙ ap (takeFromFirst (widened k) (k .b)) g)
-      ∙ sym (part-ran _ _ tape p (whole-is k ws pos most is) e ∙ run-done (taken-off k (take n ys) (take n es)) tape c)
+      ap (λ xs. ran xs c) (ap (take n) f ∙ taken-take (widened bounds) (bounds .b) n ms pos ∙ ap (takeFromFirst (widened bounds) (bounds .b)) g)
+      ∙ sym (part-ran _ _ tape p (whole-is bounds ws pos most is) e ∙ run-done (taken-off bounds (take n ys) (take n es)) tape c)
 
 -- the words that are handed on, all eight
-module _ {k : Bounds} (h : KindLaws k) where
-  pub offset-words : {ws : List ℕ} → Words 8 q ws → Words 8 q (addToFirst (arithmetic q) (k .b) ws)
-  offset-words w = added-words (arithmetic q) (k .b) (omega arith) (reach-below h) w
+module _ {bounds : Bounds} (h : KindLaws bounds) where
+  pub offset-words : {ws : List ℕ} → Words 8 q ws → Words 8 q (addToFirst (arithmetic q) (bounds .b) ws)
+  offset-words w = added-words (arithmetic q) (bounds .b) (omega arith) (reach-below h) w
 
-  pub wide-least : q ≤ wide k
-  wide-least = omega (arith, mul-le-mul-right q (pow-pos (k .rho)))
+  pub wide-least : q ≤ wide bounds
+  wide-least = omega (arith, mul-le-mul-right q (pow-pos (bounds .rho)))
 
-  pub wide-two : 2 ≤ wide k
+  pub wide-two : 2 ≤ wide bounds
   wide-two = omega (arith, wide-least)
 
-  pub reach-wide : k .b < wide k
+  pub reach-wide : bounds .b < wide bounds
   reach-wide = omega (arith, reach-below h, wide-least)
 
-  pub widened-words : {ms : List ℕ} → Words 8 (wide k) ms → Words 8 (wide k) (takeFromFirst (widened k) (k .b) ms)
-  widened-words w = taken-words (widened k) (k .b) (omega (arith, wide-least)) reach-wide w
+  pub widened-words : {ms : List ℕ} → Words 8 (wide bounds) ms → Words 8 (wide bounds) (takeFromFirst (widened bounds) (bounds .b) ms)
+  widened-words w = taken-words (widened bounds) (bounds .b) (omega (arith, wide-least)) reach-wide w
 
   -- 2^(α+1+ρ) has room for the floors, and for n − 1
-  pub floors-room : (n : ℕ) → 2 ^ (alpha n + 1) ≤ 2 ^ (alpha n + 1) * 2 ^ k .rho
-  floors-room n = omega (arith, mul-le-mul-left (2 ^ (alpha n + 1)) (pow-pos (k .rho)))
+  pub floors-room : (n : ℕ) → 2 ^ (alpha n + 1) ≤ 2 ^ (alpha n + 1) * 2 ^ bounds .rho
+  floors-room n = omega (arith, mul-le-mul-left (2 ^ (alpha n + 1)) (pow-pos (bounds .rho)))
 
-  pub count-room : (n : ℕ) → n ≤ 2 ^ (alpha n + 1) * 2 ^ k .rho
+  pub count-room : (n : ℕ) → n ≤ 2 ^ (alpha n + 1) * 2 ^ bounds .rho
   count-room n = let l : 2 ^ alpha n ≤ 2 ^ (alpha n + 1) = pow-mono (omega arith) in omega (arith, alpha-smallest n .holds, floors-room n)

@@ -1,19 +1,20 @@
 -- The zero test multiplies the value by its scalars, which are not zero: over any prime and any n. What it gives goes by its draws.
 use mathlib.Core.Path.{_≡_, refl, sym, ap, ap₂, subst, _∙_}
 use mathlib.Core.Logic.{_≢_}
-use mathlib.Core.List.{List, [], _∷_, _++_, append-nil, append-assoc}
+use mathlib.Core.List.{List, [], _∷_, _++_}
 use Prim.Native.Nat.{ℕ, zero, suc, _+_, _-_, _*_, _%_, _≤_, _<_}
 use native.Mathlib.Nat.{mod-eq-of-lt, sub-zero}
 use native.Mathlib.Omega.{arith}
-use lib.ListN.{length, getD, length-append, length-replicate, List·getD-append}
+use lib.ListN.{length, getD, replicate, length-replicate, List·getD-append}
 use lib.Seq.{getD-append-seam}
 use Rattle.numbers.specs.Lists.{Words, fold, sum, along, over}
 use Rattle.numbers.specs.Prime.{Prime}
 use Rattle.numbers.proofs.Cong.{Cong, cong-eq, cong-mod, cong-add, cong-mul, cong-refl, cong-sym, via, _⨾_}
 use Rattle.numbers.proofs.PrimeLaws.{no-zero}
 use Rattle.draws.specs.Draws.{turns, each}
+use Rattle.draws.specs.Plan.{repeated}
 use Rattle.draws.proofs.Outcomes.{Gives, feed, Fits, none-left, one-more}
-use Rattle.draws.proofs.PlanLaws.{gives-draw, gives-rounds, gives-as, always-feed, feed-bind, fits-split, FitBoth, fits-length}
+use Rattle.draws.proofs.PlanLaws.{gives-draw, gives-rounds, repeated-last, repeated-length, gives-as, always-feed, feed-bind, fits-split, FitBoth, fits-length}
 use Rattle.draws.proofs.RunLaws.{turns-last}
 use Rattle.shares.specs.Sharing.{arithmetic}
 use Rattle.shares.specs.Refresh.{refresh, refreshPlan}
@@ -23,11 +24,10 @@ use Rattle.sizes.specs.ZeroTest.{scaled, scaleTurn, zeroTest, scalePlan,
 use Rattle.sizes.specs.Scalars.{scalarOf, scalarsOf}
 use Rattle.sizes.proofs.ZeroSteps.{scaled-words}
 
--- a turn's plan at the end of the others, not before them
+-- the plan of the last turn, and not of the first, apart from the others
 pub scales-last : (M n t : ℕ) → scalesPlan M n (suc t) ≡ scalesPlan M n t ++ scalePlan M n
-unfolding scalesPlan over
-scales-last M n zero = append-nil (scalePlan M n)
-scales-last M n (suc t) = ap (scalePlan M n ++_) (scales-last M n t) ∙ sym (append-assoc (scalePlan M n) (scalesPlan M n t) (scalePlan M n))
+unfolding scalesPlan
+scales-last M n t = repeated-last t (scalePlan M n)
 
 -- the draws of one turn more, taken apart
 pub record Scales (M n t : ℕ) (rs : List ℕ) : Type 0 where
@@ -52,9 +52,11 @@ scales-parts M n t rs f = go (fits-split (scalesPlan M n t) (subst (λ ms. Fits 
 -- a turn makes n draws
 module _ {n : ℕ} (few : 0 < n) where
   pub scales-length : (M t : ℕ) → length (scalesPlan M n t) ≡ t * n
-  unfolding scalesPlan over scalePlan refreshPlan
-  scales-length M zero = omega arith
-  scales-length M (suc t) = length-append (scalePlan M n) (scalesPlan M n t) ∙ rw (length-replicate (n - 1) M, scales-length M t) (omega arith)
+  unfolding scalesPlan scalePlan refreshPlan
+  scales-length M t = repeated-length t (scalePlan M n) ∙ ap (t *_) one
+    where
+      one : suc (length (replicate (n - 1) M)) ≡ n
+      one = rw (length-replicate (n - 1) M) (omega arith)
 
   -- the scalars of the turns before the last, and the last one
   scalars-front : (t : ℕ) (cs bs : List ℕ) → t * n ≤ length cs → scalarsOf n (cs ++ bs) t ≡ scalarsOf n cs t
@@ -123,7 +125,7 @@ module _ {M n : ℕ} (some : 0 < M) (few : 0 < n) where
   -- so many turns multiply the value by their scalars
   pub scales-feed : (t v : ℕ) (xs rs : List ℕ) → Shares (arithmetic M) n v xs → Fits (scalesPlan M n t) rs →
       Shares (arithmetic M) n (v * scalarsOf n rs t % M) (feed (turns (scaleTurn M) 0 t xs) rs)
-  unfolding scalesPlan over scalarsOf turns feed
+  unfolding scalesPlan repeated over scalarsOf turns feed
   scales-feed zero v xs rs a none-left =
       let one : v * 1 ≡ v = omega arith in
       rw one (record { words = a .words; is = a .is ∙ sym (mod-eq-of-lt (value-below (arithmetic M) some a)) })
@@ -138,7 +140,7 @@ module _ {M n : ℕ} (some : 0 < M) (few : 0 < n) where
 
 -- and no product of scalars is zero
 pub scalars-not-zero : {M : ℕ} → Prime M → (n t : ℕ) → 0 < n → (rs : List ℕ) → Fits (scalesPlan M n t) rs → scalarsOf n rs t % M ≢ 0
-unfolding scalarsOf over scalesPlan
+unfolding scalarsOf over scalesPlan repeated
 scalars-not-zero {M} prime n zero few rs f = λ e. let one : 1 % M ≡ 1 = mod-eq-of-lt (prime .more) in omega arith
 scalars-not-zero {M} prime n (suc t) few rs f =
     let some : 0 < M = omega (arith, prime .more) in

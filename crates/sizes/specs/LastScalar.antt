@@ -10,4 +10,4 @@ use Rattle.sizes.specs.Verdict.{frontPlan}
 
 -- of what comes before the zero test and of all its turns but the last no draw is marked, and of the last turn the first draw alone
 unfoldable pub lastScalarMarks : Bounds → ℕ → List Bool
-lastScalarMarks k n = marksAfter (frontPlan k n ++ scalesPlan q n (n - 1)) (true ∷ [])
+lastScalarMarks bounds n = marksAfter (frontPlan bounds n ++ scalesPlan q n (n - 1)) (true ∷ [])

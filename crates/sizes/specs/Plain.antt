@@ -14,18 +14,18 @@ use Rattle.sizes.specs.Verdict.{frontPlan}
 
 -- z's size is below a
 unfoldable pub accepted : Bounds → ℤ → Bool
-accepted k z = ltb (natAbs z) (k .a)
+accepted bounds z = ltb (natAbs z) (bounds .a)
 
 -- floor((z − a)/2^ρ), z − a taken modulo 2^ρ·q: the left side is that of z, the right one that of −z
 unfoldable pub sideOf : Bounds → ℤ → ℕ
-sideOf k z = residue (wide k) (z -ℤ pos (k .a)) / 2 ^ k .rho
+sideOf bounds z = residue (wide bounds) (z -ℤ pos (bounds .a)) / 2 ^ bounds .rho
 
 unfoldable pub leftOf : Bounds → ℤ → ℕ
-leftOf k z = sideOf k z
+leftOf bounds z = sideOf bounds z
 
 unfoldable pub rightOf : Bounds → ℤ → ℕ
-rightOf k z = sideOf k (negℤ z)
+rightOf bounds z = sideOf bounds (negℤ z)
 
 -- what is opened of z, by all draws rs of a call with n shares, of which those of the zero test come last: the sides and the scalars, multiplied mod q
 unfoldable pub openedOf : Bounds → (n : ℕ) → ℤ → (rs : List ℕ) → ℕ
-openedOf k n z rs = leftOf k z * rightOf k z * scalarsOf n (drop (length (frontPlan k n)) rs) n % q
+openedOf bounds n z rs = leftOf bounds z * rightOf bounds z * scalarsOf n (drop (length (frontPlan bounds n)) rs) n % q

@@ -13,16 +13,16 @@ use Rattle.sizes.specs.Product.{product, productPlan}
 
 -- one side of widened shares: a is taken from the first share, and they are shifted by ρ, from 2^ρ·q to q
 unfoldable pub side : Bounds → List ℕ → Draws (List ℕ)
-side k ws = shift q (k .rho) (takeFromFirst (widened k) (k .a) ws)
+side bounds ws = shift q (bounds .rho) (takeFromFirst (widened bounds) (bounds .a) ws)
 
 -- left is that side of the widened shares, right that of all of them negated; left is refreshed mod q, and the two are multiplied mod q
 unfoldable pub sidesProduct : Bounds → List ℕ → Draws (List ℕ)
-sidesProduct k ws =
-    bind (side k ws) (λ left.
-    bind (side k (negated (wide k) ws)) (λ right.
+sidesProduct bounds ws =
+    bind (side bounds ws) (λ left.
+    bind (side bounds (negated (wide bounds) ws)) (λ right.
     bind (refresh (arithmetic q) left) (λ fresh.
     product q fresh right)))
 
 -- the plan
 unfoldable pub sidesPlan : Bounds → ℕ → List ℕ
-sidesPlan k n = shiftPlan q (k .rho) n ++ (shiftPlan q (k .rho) n ++ (refreshPlan (arithmetic q) n ++ productPlan q n))
+sidesPlan bounds n = shiftPlan q (bounds .rho) n ++ (shiftPlan q (bounds .rho) n ++ (refreshPlan (arithmetic q) n ++ productPlan q n))

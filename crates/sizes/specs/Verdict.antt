@@ -14,7 +14,7 @@ use Rattle.sizes.specs.Sides.{sidesProduct, sidesPlan}
 
 -- the shares that are opened
 unfoldable pub tested : Bounds → List ℕ → Draws (List ℕ)
-tested k xs = bind (widen k xs) (λ ws. bind (sidesProduct k ws) (zeroTest q))
+tested bounds xs = bind (widen bounds xs) (λ ws. bind (sidesProduct bounds ws) (zeroTest q))
 
 -- zero rejects, all else accepts
 unfoldable pub verdictOf : ℕ → ℕ
@@ -22,15 +22,15 @@ verdictOf opened = pick (eqb opened 0) 0 1
 
 -- the answer has the verdict and the opened number, and no shares
 abbrev pub judged : ℕ → Outcome
-judged opened = record { opened = verdictOf opened ∷ opened ∷ []; shares = [] }
+judged opened = record { others = verdictOf opened ∷ opened ∷ []; shares = [] }
 
 -- so the sum is opened
 unfoldable pub verdict : Bounds → List ℕ → Draws Outcome
-verdict k xs = bind (tested k xs) (λ ts. done (judged (value (arithmetic q) ts)))
+verdict bounds xs = bind (tested bounds xs) (λ ts. done (judged (value (arithmetic q) ts)))
 
 -- the plans: of all that comes before the zero test, and of the whole
 unfoldable pub frontPlan : Bounds → ℕ → List ℕ
-frontPlan k n = widenPlan k n ++ sidesPlan k n
+frontPlan bounds n = widenPlan bounds n ++ sidesPlan bounds n
 
 unfoldable pub verdictPlan : Bounds → ℕ → List ℕ
-verdictPlan k n = frontPlan k n ++ scalesPlan q n n
+verdictPlan bounds n = frontPlan bounds n ++ scalesPlan q n n

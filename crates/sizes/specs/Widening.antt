@@ -13,10 +13,10 @@ use Rattle.halves.specs.Carries.{carries, without}
 
 -- 2^ρ·q, and how the widened shares recombine
 abbrev pub wide : Bounds → ℕ
-wide k = 2 ^ k .rho * q
+wide bounds = 2 ^ bounds .rho * q
 
 abbrev pub widened : Bounds → Sharing
-widened k = arithmetic (wide k)
+widened bounds = arithmetic (wide bounds)
 
 -- the shift, for n shares: by α + 1
 abbrev pub widenShift : ℕ → ℕ
@@ -25,12 +25,12 @@ widenShift n = alpha n + 1
 -- b is added to the first share mod q; the floors of x_i·2^(α+1)/q mod 2^(α+1+ρ), n − 1 added to the first and shifted by α + 1, are e_i; share i is
 -- x_i − q·e_i mod 2^ρ·q; and b is taken from the first share
 unfoldable pub widen : Bounds → List ℕ → Draws (List ℕ)
-widen k xs =
+widen bounds xs =
     let t : ℕ = widenShift (length xs) in
-    let ys : List ℕ = addToFirst (arithmetic q) (k .b) xs in
-    bind (carries (2 ^ k .rho) t (2 ^ t) q ys) (λ es.
-    done (takeFromFirst (widened k) (k .b) (without (wide k) q es ys)))
+    let ys : List ℕ = addToFirst (arithmetic q) (bounds .b) xs in
+    bind (carries (2 ^ bounds .rho) t (2 ^ t) q ys) (λ es.
+    done (takeFromFirst (widened bounds) (bounds .b) (without (wide bounds) q es ys)))
 
 -- its plan: the shift's
 unfoldable pub widenPlan : Bounds → ℕ → List ℕ
-widenPlan k n = shiftPlan (2 ^ k .rho) (widenShift n) n
+widenPlan bounds n = shiftPlan (2 ^ bounds .rho) (widenShift n) n

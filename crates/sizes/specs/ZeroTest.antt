@@ -1,9 +1,10 @@
 -- The zero test of shares (document 01, "Steps").
-use mathlib.Core.List.{List, [], _∷_, _++_}
+use mathlib.Core.List.{List, _∷_}
 use Prim.Native.Nat.{ℕ, _+_, _-_, _*_, _%_}
 use lib.ListN.{length}
-use Rattle.numbers.specs.Lists.{along, over}
+use Rattle.numbers.specs.Lists.{along}
 use Rattle.draws.specs.Draws.{Draws, draw, each}
+use Rattle.draws.specs.Plan.{repeated}
 use Rattle.shares.specs.Sharing.{arithmetic}
 use Rattle.shares.specs.Refresh.{refresh, refreshPlan}
 
@@ -24,4 +25,4 @@ unfoldable pub scalePlan : (M n : ℕ) → List ℕ
 scalePlan M n = (M - 1) ∷ refreshPlan (arithmetic M) n
 
 unfoldable pub scalesPlan : (M n turns : ℕ) → List ℕ
-scalesPlan M n turns = over (λ i ms. scalePlan M n ++ ms) turns []
+scalesPlan M n turns = repeated turns (scalePlan M n)

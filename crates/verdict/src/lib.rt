@@ -19,20 +19,20 @@ ghost use Rattle.sizes.specs.Verdict.{tested};
 pub fn tested_shares(
     shares: [u32; Params::MOST],
     n: usize,
-    k: Bounds,
+    bounds: Bounds,
     cursor: Cursor,
     tape: &[u32],
 ) -> Shared
-    requires { ⌜ KindLaws k × Held 8 n q shares ⌝ }
-    ensures { λ r. ⌜ Gave n q r (run (tested k (take n shares)) (now (tape .entry)) cursor) ⌝ }
+    requires { ⌜ KindLaws bounds × Held 8 n q shares ⌝ }
+    ensures { λ r. ⌜ Gave n q r (run (tested bounds (take n shares)) (now (tape .entry)) cursor) ⌝ }
 {
-    let widened = widen(shares, n, k, cursor, tape);
+    let widened = widen(shares, n, bounds, cursor, tape);
     if !widened.ok {
         return Shared::ended();
     }
     let x = widened.words;
     let c = widened.cursor;
-    let product = sides_product(x, n, k, c, tape);
+    let product = sides_product(x, n, bounds, c, tape);
     if !product.ok {
         return Shared::ended();
     }

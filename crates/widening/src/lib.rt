@@ -21,11 +21,11 @@ ghost use Rattle.halves.specs.Carries.{without};
 ghost use Rattle.sizes.specs.Widening.{wide, widen};
 
 // The modulus 2^rho·q of the widened shares.
-pub fn wide(k: Bounds) -> u32
-    requires { ⌜ KindLaws k ⌝ }
-    ensures { λ r. ⌜ r ≡ wide k ⌝ }
+pub fn wide(bounds: Bounds) -> u32
+    requires { ⌜ KindLaws bounds ⌝ }
+    ensures { λ r. ⌜ r ≡ wide bounds ⌝ }
 {
-    power(k.rho) * Params::Q
+    power(bounds.rho) * Params::Q
 }
 
 // x − q·e mod m of each of the n shares x and its carry e. With x below q and e below the factor 2^rho, both x and q·e are below m = 2^rho·q, so this
@@ -53,25 +53,25 @@ fn without_carries(
 pub fn widen(
     shares: [u32; Params::MOST],
     n: usize,
-    k: Bounds,
+    bounds: Bounds,
     cursor: Cursor,
     tape: &[u32],
 ) -> Shared
-    requires { ⌜ KindLaws k × Held 8 n q shares ⌝ }
-    ensures { λ r. ⌜ Gave n (wide k) r (run (widen k (take n shares)) (now (tape .entry)) cursor) ⌝ }
+    requires { ⌜ KindLaws bounds × Held 8 n q shares ⌝ }
+    ensures { λ r. ⌜ Gave n (wide bounds) r (run (widen bounds (take n shares)) (now (tape .entry)) cursor) ⌝ }
 {
-    let x = add_to_first(shares, k.b, Params::Q);
+    let x = add_to_first(shares, bounds.b, Params::Q);
     let t = alpha(n) + 1;
-    let factor = power(k.rho);
+    let factor = power(bounds.rho);
     let carries = carries_by_q(x, n, factor, t, power(t), cursor, tape);
     if !carries.ok {
         return Shared::ended();
     }
     let e = carries.words;
     let after = carries.cursor;
-    let m = wide(k);
+    let m = wide(bounds);
     Shared {
-        words: take_from_first(without_carries(x, e, n, factor, m), k.b, m),
+        words: take_from_first(without_carries(x, e, n, factor, m), bounds.b, m),
         cursor: after,
         ok: true,
     }

@@ -35,13 +35,13 @@ pub fn kind_range(set: u32, kind: u32) -> bool
     inside(1, 2, kind)
 }
 
-fn widen_by(shares: &[u32], tape: &[u32], k: Bounds, out: &mut [u32]) -> Answer
-    requires { ⌜ KindLaws k × Checked (now shares) (length (now out)) q ⌝ }
-    ensures { λ r. ⌜ standsFor r (now (out .exit)) ≡ ranTold 0 (silentRan (run (bind (widen k (now (shares .entry))) (refresh (widened k))) (now (tape .entry)) start)) (now (out .entry)) ⌝ }
+fn widen_by(shares: &[u32], tape: &[u32], bounds: Bounds, out: &mut [u32]) -> Answer
+    requires { ⌜ KindLaws bounds × Checked (now shares) (length (now out)) q ⌝ }
+    ensures { λ r. ⌜ standsFor r (now (out .exit)) ≡ ranTold 0 (silentRan (run (bind (widen bounds (now (shares .entry))) (refresh (widened bounds))) (now (tape .entry)) start)) (now (out .entry)) ⌝ }
 {
     let n = shares.len();
-    let s = widening::widen(copy_in(shares), n, k, Cursor::start(), tape);
-    finish(close(s, n, wide(k), tape), out)
+    let s = widening::widen(copy_in(shares), n, bounds, Cursor::start(), tape);
+    finish(close(s, n, wide(bounds), tape), out)
 }
 
 pub fn widen(shares: &[u32], tape: &[u32], set: u32, kind: u32, out: &mut [u32]) -> Answer

@@ -18,11 +18,11 @@ use Rattle.judges.proofs.verdict_by.Tie as tie
 -- of the caller's shares, from the tape's start
 of-caller : (c : tie.After-tested-shares) →
     let a = c .before .before .before .before .before .args in
-    Gave (length (now (a .shares))) q (c .tested-shares .result) (run (tested (a .k) (now (a .shares))) (now (a .tape)) start)
+    Gave (length (now (a .shares))) q (c .tested-shares .result) (run (tested (a .bounds) (now (a .shares))) (now (a .tape)) start)
 of-caller c =
     let s = c .before in
     let a = s .before .before .before .before .args in
-    given-as (c .tested-shares .ensures) (ap₂ (λ xs p. run (tested (a .k) xs) (now (a .tape)) p) (s .before .copy-in .ensures .first) (s .start .ensures))
+    given-as (c .tested-shares .ensures) (ap₂ (λ xs p. run (tested (a .bounds) xs) (now (a .tape)) p) (s .before .copy-in .ensures .first) (s .start .ensures))
 
 copy-in-requires : tie.Need-copy-in-requires
 copy-in-requires c κs = c .before .before .pre .1 .most
@@ -37,7 +37,7 @@ refused-verdict-requires : tie.Need-refused-verdict-requires
 refused-verdict-requires c κs = search needs
 
 returns : tie.Need-returns
-returns c = let t = c .before .before .before in c .refused-verdict .ensures ∙ judged-ended (t .before .before .before .before .before .args .k) _ _ _ (stopped (of-caller t) (c .before .if1 .taken))
+returns c = let t = c .before .before .before in c .refused-verdict .ensures ∙ judged-ended (t .before .before .before .before .before .args .bounds) _ _ _ (stopped (of-caller t) (c .before .if1 .taken))
 
 opened-requires : tie.Need-opened-requires
 opened-requires c κs = let e = c .before .before in let t = e .before .before in held-given (t .before .before .before .before .before .pre .1) (omega arith) (t .tested-shares .ensures) (not-false _ (e .if1 .left))
@@ -49,7 +49,7 @@ returns-2 : tie.Need-returns-2
 returns-2 c = let o = c .before in
     let e = o .before .before .before in
     let t = e .before .before in
-    judged-ran (t .before .before .before .before .before .args .k) _ _ _ _ (gave (of-caller t) (e .if1 .left)) (o .opened .ensures) _ refl (c .verdict-of .ensures) refl refl
+    judged-ran (t .before .before .before .before .before .args .bounds) _ _ _ _ (gave (of-caller t) (e .if1 .left)) (o .opened .ensures) _ refl (c .verdict-of .ensures) refl refl
 
 pub verdict-by-spec : {M : Type 1} → statement M
 verdict-by-spec =

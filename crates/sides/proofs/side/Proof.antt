@@ -20,8 +20,8 @@ use Rattle.sides.proofs.side.Tie as tie
 
 first : (c : tie.After-take-from-first) →
     let a = c .before .before .before .args in
-    c .take-from-first .result ≡ takeFromFirst (widened (a .k)) (a .k .a) (a .shares)
-first c = let a = c .before .before .before .args in c .take-from-first .ensures ∙ ap (λ m. takeFromFirst (arithmetic m) (a .k .a) (a .shares)) (c .before .wide .ensures)
+    c .take-from-first .result ≡ takeFromFirst (widened (a .bounds)) (a .bounds .a) (a .shares)
+first c = let a = c .before .before .before .args in c .take-from-first .ensures ∙ ap (λ m. takeFromFirst (arithmetic m) (a .bounds .a) (a .shares)) (c .before .wide .ensures)
 
 wide-requires : tie.Need-wide-requires
 wide-requires c κs = search needs
@@ -37,8 +37,8 @@ unfolding side
 returns c = let f = c .before in
     let s = f .before .before .before in
     given-as (c .shift-by .ensures)
-    (ap (λ xs. run (shift q (s .args .k .rho) xs) (now (s .args .tape)) (s .args .cursor))
-    (ap (take (s .args .n)) (first f) ∙ taken-take (widened (s .args .k)) (s .args .k .a) (s .args .n) _ (omega (arith, s .pre .1 .least))))
+    (ap (λ xs. run (shift q (s .args .bounds .rho) xs) (now (s .args .tape)) (s .args .cursor))
+    (ap (take (s .args .n)) (first f) ∙ taken-take (widened (s .args .bounds)) (s .args .bounds .a) (s .args .n) _ (omega (arith, s .pre .1 .least))))
 
 pub side-spec : {M : Type 1} → statement M
 side-spec = tie.close (tie.spec wide-requires take-from-first-requires shift-by-requires returns)

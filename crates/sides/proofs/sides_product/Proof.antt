@@ -21,7 +21,7 @@ use Rattle.sides.proofs.sides_product.Tie as tie
 left : (c : tie.Else1) →
     let l = c .before .before in
     let a = l .before .before .args in
-    run (side (a .k) (take (a .n) (a .shares))) (now (a .tape)) (a .cursor) ≡ ran (take (a .n) (l .side .result .words)) (l .side .result .cursor)
+    run (side (a .bounds) (take (a .n) (a .shares))) (now (a .tape)) (a .cursor) ≡ ran (take (a .n) (l .side .result .words)) (l .side .result .cursor)
 left c = gave (c .before .before .side .ensures) (c .if1 .left)
 
 held-left : (c : tie.Else1) → let l = c .before .before in Held 8 (l .before .before .args .n) q (l .side .result .words)
@@ -29,7 +29,7 @@ held-left c = let l = c .before .before in held-below (l .before .before .pre .1
 
 negative : (c : tie.After-negated) →
     let a = c .before .before .before .before .before .before .before .before .args in
-    c .negated .result ≡ negated (wide (a .k)) (a .shares)
+    c .negated .result ≡ negated (wide (a .bounds)) (a .shares)
 negative c = let a = c .before .before .before .before .before .before .before .before .args in c .negated .ensures ∙ ap (λ m. negated m (a .shares)) (c .before .wide .ensures)
 
 -- of the negated shares
@@ -37,12 +37,12 @@ right : (c : tie.After-side2) →
     let e = c .before .before .before .before .before in
     let l = e .before .before in
     let a = l .before .before .args in
-    Gave (a .n) q (c .side2 .result) (run (side (a .k) (negated (wide (a .k)) (take (a .n) (a .shares)))) (now (a .tape)) (l .side .result .cursor))
+    Gave (a .n) q (c .side2 .result) (run (side (a .bounds) (negated (wide (a .bounds)) (take (a .n) (a .shares)))) (now (a .tape)) (l .side .result .cursor))
 right c =
     let l = c .before .before .before .before .before .before .before in
     let a = l .before .before .args in
     given-as (c .side2 .ensures)
-    (ap (λ xs. run (side (a .k) xs) (now (a .tape)) (l .side .result .cursor)) (ap (take (a .n)) (negative (c .before)) ∙ negated-take (wide (a .k)) (a .n) (a .shares)))
+    (ap (λ xs. run (side (a .bounds) xs) (now (a .tape)) (l .side .result .cursor)) (ap (take (a .n)) (negative (c .before)) ∙ negated-take (wide (a .bounds)) (a .n) (a .shares)))
 
 side-requires : tie.Need-side-requires
 side-requires c κs = search needs
@@ -53,7 +53,7 @@ ended-requires c κs = search needs
 returns : tie.Need-returns
 returns c = let l = c .before .before .before in
     let s = l .before .before in
-    cut-off (c .ended .ensures) (left-ended (s .args .k) _ _ _ (stopped (l .side .ensures) (c .before .if1 .taken)))
+    cut-off (c .ended .ensures) (left-ended (s .args .bounds) _ _ _ (stopped (l .side .ensures) (c .before .if1 .taken)))
 
 wide-requires : tie.Need-wide-requires
 wide-requires c κs = search needs
@@ -62,7 +62,7 @@ negated-requires : tie.Need-negated-requires
 negated-requires c κs = rw (c .wide .ensures) (c .before .before .before .before .before .before .before .pre .1 .all)
 
 side-requires-2 : tie.Need-side-requires-2
-side-requires-2 c κs = let s = c .before .before .before .before .before .before .before .before in (s .pre .0, rw (negative c) (held-of (s .pre .1) (negated-words (wide (s .args .k)) (omega (arith, s .pre .1 .two)) (s .pre .1 .all))))
+side-requires-2 c κs = let s = c .before .before .before .before .before .before .before .before in (s .pre .0, rw (negative c) (held-of (s .pre .1) (negated-words (wide (s .args .bounds)) (omega (arith, s .pre .1 .two)) (s .pre .1 .all))))
 
 ended-requires-2 : tie.Need-ended-requires-2
 ended-requires-2 c κs = search needs
@@ -70,7 +70,7 @@ ended-requires-2 c κs = search needs
 returns-2 : tie.Need-returns-2
 returns-2 c = let r = c .before .before .before in
     let e = r .before .before .before .before .before in
-    cut-off (c .ended2 .ensures) (right-ended (e .before .before .before .before .args .k) _ _ _ _ (left e) (stopped (right r) (c .before .if2 .taken)))
+    cut-off (c .ended2 .ensures) (right-ended (e .before .before .before .before .args .bounds) _ _ _ _ (left e) (stopped (right r) (c .before .if2 .taken)))
 
 refresh-requires : tie.Need-refresh-requires
 refresh-requires c κs = held-left (c .before .before .before .before .before .before .before .before .before)
@@ -84,7 +84,7 @@ returns-3 c = let f = c .before .before .before in
     let r = i .before .before in
     let e = r .before .before .before .before .before in
     cut-off (c .ended3 .ensures)
-    (fresh-ended (e .before .before .before .before .args .k) _ _ _ _ (left e) _ (gave (right r) (i .if2 .left)) (stopped (f .refresh .ensures) (c .before .if3 .taken)))
+    (fresh-ended (e .before .before .before .before .args .bounds) _ _ _ _ (left e) _ (gave (right r) (i .if2 .left)) (stopped (f .refresh .ensures) (c .before .if3 .taken)))
 
 product-requires : tie.Need-product-requires
 product-requires c κs = let j = c .before .before in
@@ -98,7 +98,7 @@ returns-4 c = let j = c .before .before .before in
     let i = f .before .before .before in
     let r = i .before .before in
     let e = r .before .before .before .before .before in
-    given-as (c .product .ensures) (to-product (e .before .before .before .before .args .k) _ _ _ _ (left e) _ (gave (right r) (i .if2 .left)) _ (gave (f .refresh .ensures) (j .if3 .left)))
+    given-as (c .product .ensures) (to-product (e .before .before .before .before .args .bounds) _ _ _ _ (left e) _ (gave (right r) (i .if2 .left)) _ (gave (f .refresh .ensures) (j .if3 .left)))
 
 pub sides-product-spec : {M : Type 1} → statement M
 sides-product-spec =

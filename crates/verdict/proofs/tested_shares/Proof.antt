@@ -16,7 +16,7 @@ ended-requires c κs = search needs
 
 returns : tie.Need-returns
 returns c = let w = c .before .before .before in
-    cut-off (c .ended .ensures) (widen-stops (w .before .before .args .k) _ _ _ (stopped (w .widen .ensures) (c .before .if1 .taken)))
+    cut-off (c .ended .ensures) (widen-stops (w .before .before .args .bounds) _ _ _ (stopped (w .widen .ensures) (c .before .if1 .taken)))
 
 sides-product-requires : tie.Need-sides-product-requires
 sides-product-requires c κs = let e = c .before .before in
@@ -31,7 +31,7 @@ returns-2 : tie.Need-returns-2
 returns-2 c = let p = c .before .before .before in
     let e = p .before .before .before in
     let w = e .before .before in
-    cut-off (c .ended2 .ensures) (sides-stop (w .before .before .args .k) _ _ _ _ (gave (w .widen .ensures) (e .if1 .left)) (stopped (p .sides-product .ensures) (c .before .if2 .taken)))
+    cut-off (c .ended2 .ensures) (sides-stop (w .before .before .args .bounds) _ _ _ _ (gave (w .widen .ensures) (e .if1 .left)) (stopped (p .sides-product .ensures) (c .before .if2 .taken)))
 
 zero-test-requires : tie.Need-zero-test-requires
 zero-test-requires c κs = let e = c .before .before in
@@ -43,7 +43,7 @@ returns-3 c = let f = c .before .before .before in
     let p = f .before .before in
     let e = p .before .before .before in
     let w = e .before .before in
-    given-as (c .zero-test .ensures) (to-zero-test (w .before .before .args .k) _ _ _ _ (gave (w .widen .ensures) (e .if1 .left)) _ (gave (p .sides-product .ensures) (f .if2 .left)))
+    given-as (c .zero-test .ensures) (to-zero-test (w .before .before .args .bounds) _ _ _ _ (gave (w .widen .ensures) (e .if1 .left)) _ (gave (p .sides-product .ensures) (f .if2 .left)))
 
 pub tested-shares-spec : {M : Type 1} → statement M
 tested-shares-spec =

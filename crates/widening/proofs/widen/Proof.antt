@@ -32,8 +32,8 @@ carried : (c : tie.After-carries-by-q) →
     let a = c .before .before .before in
     let s = a .before .before .before in
     let t = a .alpha .result + 1 in
-    let ys = addToFirst (arithmetic q) (s .args .k .b) (s .args .shares) in
-    Gave (s .args .n) (2 ^ s .args .k .rho) (c .carries-by-q .result) (run (carries (2 ^ s .args .k .rho) t (2 ^ t) q (take (s .args .n) ys)) (now (s .args .tape)) (s .args .cursor))
+    let ys = addToFirst (arithmetic q) (s .args .bounds .b) (s .args .shares) in
+    Gave (s .args .n) (2 ^ s .args .bounds .rho) (c .carries-by-q .result) (run (carries (2 ^ s .args .bounds .rho) t (2 ^ t) q (take (s .args .n) ys)) (now (s .args .tape)) (s .args .cursor))
 carried c =
     let a = c .before .before .before in
     rw (sym (c .before .before .power .ensures), sym (c .before .power2 .ensures), sym (a .before .add-to-first .ensures)) (c .carries-by-q .ensures)
@@ -42,20 +42,20 @@ carried c =
 middle : (c : tie.After-without-carries) →
     let y = c .before .before .before .before .before .before in
     let s = y .before .before .before .before .before .before in
-    let k = s .args .k in
+    let bounds = s .args .bounds in
     let n = s .args .n in
-    take n (c .without-carries .result) ≡ without (wide k) q (take n (y .carries-by-q .result .words)) (take n (addToFirst (arithmetic q) (k .b) (s .args .shares)))
+    take n (c .without-carries .result) ≡ without (wide bounds) q (take n (y .carries-by-q .result .words)) (take n (addToFirst (arithmetic q) (bounds .b) (s .args .shares)))
 middle c =
     let y = c .before .before .before .before .before .before in
     rw (sym (c .before .wide .ensures), sym (y .before .before .before .before .add-to-first .ensures)) (c .without-carries .ensures .1)
 
 -- and b taken away again
 result : (c : tie.After-take-from-first) →
-    let k = c .before .before .before .before .before .before .before .before .before .before .before .before .before .args .k in
-    c .take-from-first .result ≡ takeFromFirst (widened k) (k .b) (c .before .without-carries .result)
+    let bounds = c .before .before .before .before .before .before .before .before .before .before .before .before .before .args .bounds in
+    c .take-from-first .result ≡ takeFromFirst (widened bounds) (bounds .b) (c .before .without-carries .result)
 result c =
     let w = c .before .before in
-    let b = w .before .before .before .before .before .before .before .before .before .before .before .args .k .b in
+    let b = w .before .before .before .before .before .before .before .before .before .before .before .args .bounds .b in
     c .take-from-first .ensures ∙ ap (λ m. takeFromFirst (arithmetic m) b (c .before .without-carries .result)) (w .wide .ensures)
 
 few : (c : tie.After-alpha) → c .alpha .result ≤ 3
@@ -100,7 +100,7 @@ without-carries-requires c κs = let e = c .before .before .before in
     let w = y .before .before in
     let a = w .before in
     let r = a .before .before .before .pre .0 in
-    (c .wide .ensures ∙ ap (λ p. p * q) (sym (w .power .ensures)), rw (w .power .ensures) (pow-pos (a .before .before .before .args .k .rho)), a .before .before .before .pre .1 .most, offset a .all, y .carries-by-q .ensures .below (not-false _ (e .if1 .left)))
+    (c .wide .ensures ∙ ap (λ p. p * q) (sym (w .power .ensures)), rw (w .power .ensures) (pow-pos (a .before .before .before .args .bounds .rho)), a .before .before .before .pre .1 .most, offset a .all, y .carries-by-q .ensures .below (not-false _ (e .if1 .left)))
 
 take-from-first-requires : tie.Need-take-from-first-requires
 take-from-first-requires c κs = let e = c .before .before .before .before in

@@ -46,8 +46,8 @@ returns c = let f = c .before .before in
     let a = s .args in
     f .finish .ensures
     ∙ ap (λ y. ranTold 0 (silentRan y) (now (a .out)))
-    (closed-on-copy (widen (a .k)) (arithmetic _) _ (b .before .copy-in .ensures) (s .pre .1 .fits) (b .start .ensures) (w .widen .ensures) (l .close .ensures)
-    ∙ ap (λ m. run (bind (widen (a .k) (now (a .shares))) (refresh (arithmetic m))) (now (a .tape)) start) (v .wide .ensures))
+    (closed-on-copy (widen (a .bounds)) (arithmetic _) _ (b .before .copy-in .ensures) (s .pre .1 .fits) (b .start .ensures) (w .widen .ensures) (l .close .ensures)
+    ∙ ap (λ m. run (bind (widen (a .bounds) (now (a .shares))) (refresh (arithmetic m))) (now (a .tape)) start) (v .wide .ensures))
 
 pub widen-by-spec : {M : Type 1} → statement M
 widen-by-spec =
