@@ -17,13 +17,17 @@ use Rattle.demands.specs.Gadgets.{toArithmeticGadget}
 use Rattle.conversions.proofs.to_arithmetic.Statement.{statement}
 use Rattle.conversions.proofs.to_arithmetic.Tie as tie
 
+-- what the caller lent
+abbrev caller : tie.After-first-failing → tie.Start
+caller c = c .before .before .before .before .before .before
+
 number : (c : tie.After-first-failing) →
-    let a = c .before .before .before .before .before .before .args in
+    let a = caller c .args in
     c .first-failing .result ≡ firstFailing (checks (now (a .shares)) (length (now (a .out))) (inside 1 31 (a .k)) (2 ^ a .k))
 number c = checked-width _ _ 31 _ (omega arith) (c .first-failing .ensures) (c .before .before .inside .ensures) (c .before .width-bound .ensures)
 
 good : (c : tie.Else1) →
-    let a = c .before .before .before .before .before .before .before .args in
+    let a = caller (c .before) .args in
     Passed (now (a .shares)) (length (now (a .out))) (inside 1 31 (a .k)) (2 ^ a .k)
 good c = all-passed _ _ _ _ (sym (number (c .before)) ∙ c .if1 .left)
 
@@ -77,7 +81,7 @@ returns-2 c =
     let w = l .before in
     let r = w .before in
     let b = r .before .before .before in
-    let a = b .before .before .before .before .before .before .before .args in
+    let a = caller (b .before) .args in
     silent-ran _ (boolean _) (arithmetic _) _ _ _ _ (sym (number (b .before)) ∙ b .if1 .left) (f .finish .ensures)
     (closed-on-copy (toArithmetic _) (arithmetic _) _ (r .before .before .copy-in .ensures) (good b .ready .fits) (r .before .start .ensures) (r .to-arithmetic .ensures) (l .close .ensures)
     ∙ ap (λ m. run (bind (toArithmetic (a .k) (now (a .shares))) (refresh (arithmetic m))) (now (a .tape)) start) (w .power .ensures))

@@ -15,13 +15,17 @@ use Rattle.demands.specs.Gadgets.{toModQGadget}
 use Rattle.conversions.proofs.to_mod_q.Statement.{statement}
 use Rattle.conversions.proofs.to_mod_q.Tie as tie
 
+-- what the caller lent
+abbrev caller : tie.After-first-failing → tie.Start
+caller c = c .before .before .before .before .before .before
+
 number : (c : tie.After-first-failing) →
-    let a = c .before .before .before .before .before .before .args in
+    let a = caller c .args in
     c .first-failing .result ≡ firstFailing (checks (now (a .shares)) (length (now (a .out))) (inside 1 20 (a .mu)) (2 ^ a .mu))
 number c = checked-width _ _ 20 _ (omega arith) (c .first-failing .ensures) (c .before .before .inside .ensures) (c .before .width-bound .ensures)
 
 good : (c : tie.Else1) →
-    let a = c .before .before .before .before .before .before .before .args in
+    let a = caller (c .before) .args in
     Passed (now (a .shares)) (length (now (a .out))) (inside 1 20 (a .mu)) (2 ^ a .mu)
 good c = all-passed _ _ _ _ (sym (number (c .before)) ∙ c .if1 .left)
 

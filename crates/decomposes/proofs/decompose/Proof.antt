@@ -20,8 +20,12 @@ use Rattle.decomposes.proofs.decompose.Statement.{statement}
 use Rattle.decomposes.proofs.decompose.Tie as tie
 
 -- the first check that failed, the parameters being in range or not
+-- what the caller lent
+abbrev caller : tie.After-first-failing → tie.Start
+caller c = c .before .before .before .before .before
+
 number : (c : tie.After-first-failing) →
-    let a = c .before .before .before .before .before .args in
+    let a = caller c .args in
     c .first-failing .result ≡ firstFailing (checks (now (a .shares)) (length (now (a .out))) (known (a .set)) q)
 number c = checked _ _ (c .first-failing .ensures) (c .before .known .ensures) (λ t. refl)
 
@@ -66,7 +70,7 @@ returns : tie.Need-returns
 unfolding decomposeGadget
 returns c = let k = c .before .before in
     let m = k .before .before in
-    let a = m .before .before .before .before .before .before .args in
+    let a = caller (m .before) .args in
     let (e, h) = not-admitted _ _ (set-known (m .before)) _ (m .admit .ensures) (k .k .given .1) in
     gadget-refused _ (now (a .shares)) (now (a .tape)) (now (a .out)) (e ∙ number (m .before)) h (c .refused-parts .ensures _)
 
@@ -78,7 +82,7 @@ unfolding decomposeGadget
 returns-2 c = let f = c .before .before in
     let p = f .before .before .before in
     let m = p .before .before in
-    let a = m .before .before .before .before .before .before .args in
+    let a = caller (m .before) .args in
     let g = admitted p in
     gadget-ran _ (now (a .shares)) (now (a .tape)) (now (a .out)) (sym (g .passes ∙ number (m .before))) (f .decompose-by .ensures)
     (ap (λ (p : Params). run (closed (arithmetic q) (decompose p (now (a .shares)))) (now (a .tape)) start) (g .constants))

@@ -22,33 +22,37 @@ use Rattle.decomposes.proofs.TellLaws.{told-refused, told-parts, high-e
 use Rattle.decomposes.proofs.decompose_by.Statement.{statement}
 use Rattle.decomposes.proofs.decompose_by.Tie as tie
 
+-- the places along the code: the caller's arguments, and where the high part was opened
+abbrev caller : tie.After-high-part → tie.Start
+caller c = c .before .before .before .before .before .before
+
+abbrev opened-at : tie.After-high → tie.After-high-part
+opened-at c = c .before .before
+
 -- the copied shares
-copied : (c : tie.After-high-part) →
-    let b = c .before .before in
-    Held 8 (length (now (b .before .before .before .before .args .shares))) q (b .copy-in .result)
-copied c = let b = c .before .before in held (b .before .before .before .before .pre .1) (omega arith) (b .copy-in .ensures)
+copied : (c : tie.After-high-part) → Held 8 (length (now (caller c .args .shares))) q (c .before .before .copy-in .result)
+copied c = held (caller c .pre .1) (omega arith) (c .before .before .copy-in .ensures)
 
 -- what is opened, of the caller's shares
 opening : (c : tie.After-high-part) →
-    let s = c .before .before .before .before .before .before in
+    let s = caller c in
     highStandsFor (c .high-part .result) ≡ run (highPart (s .args .p) (now (s .args .shares))) (now (s .args .tape)) start
 opening c =
     let b = c .before in
-    let s = b .before .before .before .before .before in
+    let s = caller c in
     c .high-part .ensures ∙ ap₂ (λ xs d. run (highPart (s .args .p) xs) (now (s .args .tape)) d) (b .before .copy-in .ensures .first) (b .start .ensures)
 
-small : (c : tie.After-high) → let s = c .before .before .before .before .before .before .before .before in c .high .given .0 .0 < s .args .p .delta
+small : (c : tie.After-high) → c .high .given .0 .0 < caller (opened-at c) .args .p .delta
 unfolding highStandsFor
 small c =
-    let h = c .before .before in
-    let s = h .before .before .before .before .before .before in
-    high-below _ _ _ _ (omega (arith, s .pre .0 .parts-least)) (sym (opening h) ∙ ap highStandsFor (c .high .given .1))
+    let h = opened-at c in
+    high-below _ _ _ _ (omega (arith, caller h .pre .0 .parts-least)) (sym (opening h) ∙ ap highStandsFor (c .high .given .1))
 
 -- the low shares and their refresh, of the caller's shares
 closed-so : (f : tie.After-finish) →
     let r = f .before .before in
     let k = r .before .before .before in
-    let s = k .before .before .before .before .before .before .before .before in
+    let s = caller (opened-at k) in
     ranTold 1 (openedRan (k .high .given .0 .0 ∷ []) (shared (length (now (s .args .out))) (r .refresh .result))) (now (s .args .out))
     ≡ ranTold 1 (run (closed (arithmetic q) (decompose (s .args .p) (now (s .args .shares)))) (now (s .args .tape)) start) (now (s .args .out))
 unfolding highStandsFor
@@ -56,9 +60,9 @@ closed-so f =
     let r = f .before .before in
     let l = r .before in
     let k = l .before .before in
-    let h = k .before .before in
+    let h = opened-at k in
     let b = h .before .before in
-    let s = b .before .before .before .before in
+    let s = caller h in
     let n = length (now (s .args .shares)) in
     ap (λ x. ranTold 1 x (now (s .args .out)))
     (ap (openedRan (k .high .given .0 .0 ∷ []))
@@ -89,20 +93,20 @@ returns : tie.Need-returns
 unfolding ranTold highStandsFor
 returns c = let e = c .before in
     let h = e .before .before in
-    let s = h .before .before .before .before .before .before in
+    let s = caller h in
     c .refused-parts .ensures (now (s .args .out))
     ∙ ap (λ x. ranTold 1 x (now (s .args .out))) (high-ended _ _ _ _ (sym (opening h) ∙ ap highStandsFor (e .enum-told .given .1)))
 
 low-shares-requires : tie.Need-low-shares-requires
-low-shares-requires c κs = let h = c .before .before .before in (h .before .before .before .before .before .before .pre .0, small (c .before), copied h .all)
+low-shares-requires c κs = let h = opened-at (c .before) in (caller h .pre .0, small (c .before), copied h .all)
 
 refresh-requires : tie.Need-refresh-requires
 refresh-requires c κs = let k = c .before .before in
-    let h = k .before .before in
-    held-of (copied h) (rw (c .low-shares .ensures) (low-words (h .before .before .before .before .before .before .pre .0) (small k) (copied h .all)))
+    let h = opened-at k in
+    held-of (copied h) (rw (c .low-shares .ensures) (low-words (caller h .pre .0) (small k) (copied h .all)))
 
 finish-requires : tie.Need-finish-requires
-finish-requires c κs = let s = c .before .before .before .before .before .before .before .before .before .before .before .before .pre .1 in omega (arith, s .fits, s .most)
+finish-requires c κs = let s = caller (opened-at (c .before .before .before .before)) .pre .1 in omega (arith, s .fits, s .most)
 
 refused-parts-requires-2 : tie.Need-refused-parts-requires-2
 refused-parts-requires-2 c κs = search needs

@@ -35,6 +35,13 @@ second c = c .before .before .before .before
 abbrev start : tie.After-known-told3 → tie.Start
 start c = drawn (first (second c)) .before .before .before
 
+-- and those after them: the last draw, and where U sufficed
+abbrev third : tie.Else1 → tie.After-known-told3
+third c = c .before .before
+
+abbrev u-whole : tie.After-psi3 → tie.Else1
+u-whole c = c .before .before .before .before
+
 -- draws below m are below 2^k
 told : (c : tie.After-draw) → let s = c .before .before .before in drawStandsFor (c .draw .result) ≡ drawAt (now (s .args .tape)) (s .args .cursor) (2 ^ s .args .k)
 told c = c .draw .ensures ∙ ap (drawAt _ _) (c .before .power .ensures)
@@ -88,27 +95,25 @@ below c = fresh-below 4 _ _ _ _ _ (omega arith) (words-take 4 (omega arith) (sta
 
 -- Z
 zs : (c : tie.After-psi3) →
-    let g = c .before .before .before .before .before .before in
+    let g = third (u-whole c) in
     _≡_ {A = List ℕ} (c .before .before .psi .result ∷ c .before .psi2 .result ∷ c .psi3 .result ∷ [])
     (zOf (start g .args .k) 4 (getD (fresh g) 0 0) (drop 1 (fresh g)))
 unfolding xor
-zs c = four-z _ (getD (fresh (c .before .before .before .before .before .before)) 0 0) _ _ _ (c .before .before .psi .ensures) (c .before .psi2 .ensures) (c .psi3 .ensures)
+zs c = four-z _ (getD (fresh (third (u-whole c))) 0 0) _ _ _ (c .before .before .psi .ensures) (c .before .psi2 .ensures) (c .psi3 .ensures)
 
 -- the results of U and Z
-u-below : (c : tie.Else1) → Words 8 (2 ^ start (c .before .before) .args .k) (c .before .of-three .result .words)
+u-below : (c : tie.Else1) → Words 8 (2 ^ start (third c) .args .k) (c .before .of-three .result .words)
 u-below c = c .before .of-three .ensures .below (not-false _ (c .if1 .left))
 
-z-below : (c : tie.Else2) →
-    let g = c .before .before .before .before .before .before .before .before in
-    Words 8 (2 ^ start g .args .k) (c .before .of-three2 .result .words)
+z-below : (c : tie.Else2) → Words 8 (2 ^ start (third (u-whole (c .before .before))) .args .k) (c .before .of-three2 .result .words)
 z-below c = c .before .of-three2 .ensures .below (not-false _ (c .if2 .left))
 
 total : (c : tie.After-add-mod) →
     let l = c .before .before .before .before in
-    let o = l .before .before .before .before .before .before .before in
+    let o = u-whole (l .before .before) .before in
     c .add-mod .result ≡ addMod (2 ^ start (o .before) .args .k) (getD (o .of-three .result .words) 0 0) (getD (l .before .of-three2 .result .words) 0 0)
 total c =
-    let o = c .before .before .before .before .before .before .before .before .before .before .before in
+    let o = u-whole (c .before .before .before .before .before .before) .before in
     rw (sym (drawn (first (second (o .before))) .before .power .ensures)) (c .add-mod .ensures)
 
 power-requires : tie.Need-power-requires
@@ -201,7 +206,7 @@ psi-requires-3 c κs = start (c .before .before .before .before .before) .pre .0
 
 of-three-requires-2 : tie.Need-of-three-requires-2
 of-three-requires-2 c κs =
-    let g = c .before .before .before .before .before .before in
+    let g = third (u-whole c) in
     let s = start g in
     (s .pre .0, three-held (s .pre .1 .two) (subst (Words 3 _) (sym (zs c)) (z-words _ 4 _ (words-head (below g)) (words-tail (below g)))))
 
@@ -212,7 +217,7 @@ returns-5 : tie.Need-returns-5
 unfolding xor
 returns-5 c =
     let b = c .before .before in
-    let e = b .before .before .before .before .before in
+    let e = u-whole (b .before) in
     let o = e .before in
     cut-off (c .ended5 .ensures) (z-ended _ refl _ _ _ _ (refreshed (o .before)) (gave (o .of-three .ensures) (e .if1 .left))
     (same-shares _ _ _ _ (zs (b .before)) (stopped (b .of-three2 .ensures) (c .before .if2 .taken))))
@@ -226,8 +231,8 @@ element-copy-out-add-mod-2 c = search needs
 add-mod-requires : tie.Need-add-mod-requires
 add-mod-requires c κs =
     let l = c .before .before .before in
-    let e = l .before .before .before .before .before .before in
-    rw (drawn (first (second (e .before .before))) .before .power .ensures) (u-below e .below 0 (omega arith), z-below l .below 0 (omega arith))
+    let e = u-whole (l .before .before) in
+    rw (drawn (first (second (third e))) .before .power .ensures) (u-below e .below 0 (omega arith), z-below l .below 0 (omega arith))
 
 element-copy-out-u : tie.Need-element-copy-out-u
 element-copy-out-u c = search needs
@@ -241,7 +246,7 @@ returns-6 c =
     let m = c .before .before in
     let l = m .before .before .before .before in
     let b = l .before in
-    let e = b .before .before .before .before .before in
+    let e = u-whole (b .before) in
     let o = e .before in
     whole refl (four-below _ (total m) (u-below e) (z-below l))
     (rule-gave _ refl _ _ _ _ (refreshed (o .before)) (gave (o .of-three .ensures) (e .if1 .left))

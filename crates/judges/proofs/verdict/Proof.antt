@@ -19,8 +19,12 @@ use Rattle.judges.proofs.verdict.Statement.{statement}
 use Rattle.judges.proofs.verdict.Tie as tie
 
 -- the first check that failed, the parameters being in range or not
+-- what the caller lent
+abbrev caller : tie.After-first-failing → tie.Start
+caller c = c .before .before .before .before
+
 number : (c : tie.After-first-failing) →
-    let a = c .before .before .before .before .args in
+    let a = caller c .args in
     c .first-failing .result ≡ firstFailing (checks (now (a .shares)) (length (now (a .shares))) (kindRange (a .set) (a .kind)) q)
 number c = checked _ _ (c .first-failing .ensures) (c .before .kind-range .ensures) (λ t. refl)
 
@@ -69,7 +73,7 @@ returns : tie.Need-returns
 unfolding verdictGadget
 returns c = let k = c .before .before in
     let m = k .before .before in
-    let a = m .before .before .before .before .before .args in
+    let a = caller (m .before) .args in
     let (e, h) = not-admitted _ _ (set-known (m .before)) _ (m .admit .ensures) (k .k .given .1) in
     judge-refused _ (now (a .shares)) (now (a .tape)) (e ∙ number (m .before) ∙ judge-checks (verdictGadget (a .set) (a .kind)) (now (a .shares))) h (c .refused-verdict .ensures)
 
@@ -78,7 +82,7 @@ unfolding verdictGadget
 returns-2 c = let o = c .before in
     let p = o .before .before in
     let m = p .before .before in
-    let a = m .before .before .before .before .before .args in
+    let a = caller (m .before) .args in
     let g = admitted p in
     judge-ran _ (now (a .shares)) (now (a .tape)) (sym (g .passes ∙ number (m .before) ∙ judge-checks (verdictGadget (a .set) (a .kind)) (now (a .shares)))) (c .verdict-by .ensures)
     (ap (λ k. run (verdict k (now (a .shares))) (now (a .tape)) start) (o .of-kind .ensures ∙ ap (λ (p : Params). ofKind p (a .kind)) (g .constants)))

@@ -16,13 +16,17 @@ use Rattle.refreshes.proofs.refresh.Tie as tie
 inside-requires : tie.Need-inside-requires
 inside-requires c κs = search needs
 
+-- what the caller lent
+abbrev caller : tie.After-first-failing → tie.Start
+caller c = c .before .before .before .before .before
+
 number : (c : tie.After-first-failing) →
-    let a = c .before .before .before .before .before .args in
+    let a = caller c .args in
     c .first-failing .result ≡ firstFailing (checks (now (a .shares)) (length (now (a .out))) (inside 2 4294967295 (a .modulus)) (a .modulus))
 number c = checked _ _ (c .first-failing .ensures) (c .before .inside .ensures) (λ t. refl)
 
 good : (c : tie.Else1) →
-    let a = c .before .before .before .before .before .before .args in
+    let a = caller (c .before) .args in
     Passed (now (a .shares)) (length (now (a .out))) (inside 2 4294967295 (a .modulus)) (a .modulus)
 good c = all-passed _ _ _ _ (sym (number (c .before)) ∙ c .if1 .left)
 

@@ -18,13 +18,17 @@ use Rattle.refreshes.proofs.refresh_boolean.Tie as tie
 inside-requires : tie.Need-inside-requires
 inside-requires c κs = search needs
 
+-- what the caller lent
+abbrev caller : tie.After-first-failing → tie.Start
+caller c = c .before .before .before .before .before .before
+
 number : (c : tie.After-first-failing) →
-    let a = c .before .before .before .before .before .before .args in
+    let a = caller c .args in
     c .first-failing .result ≡ firstFailing (checks (now (a .shares)) (length (now (a .out))) (inside 1 31 (a .width)) (2 ^ a .width))
 number c = checked-width _ _ 31 _ (omega arith) (c .first-failing .ensures) (c .before .before .inside .ensures) (c .before .width-bound .ensures)
 
 good : (c : tie.Else1) →
-    let a = c .before .before .before .before .before .before .before .args in
+    let a = caller (c .before) .args in
     Passed (now (a .shares)) (length (now (a .out))) (inside 1 31 (a .width)) (2 ^ a .width)
 good c = all-passed _ _ _ _ (sym (number (c .before)) ∙ c .if1 .left)
 

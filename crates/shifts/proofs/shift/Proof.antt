@@ -14,13 +14,17 @@ use Rattle.demands.proofs.RangeLaws.{shift-range-out, whole-power, whole-least}
 use Rattle.shifts.proofs.shift.Statement.{statement}
 use Rattle.shifts.proofs.shift.Tie as tie
 
+-- what the caller lent
+abbrev caller : tie.After-first-failing → tie.Start
+caller c = c .before .before .before .before .before
+
 number : (c : tie.After-first-failing) →
-    let a = c .before .before .before .before .before .args in
+    let a = caller c .args in
     c .first-failing .result ≡ firstFailing (checks (now (a .shares)) (length (now (a .out))) (shiftRange (a .modulus) (a .t)) (a .modulus))
 number c = checked _ _ (c .first-failing .ensures) (c .before .shift-range .ensures) (λ t. refl)
 
 good : (c : tie.Else1) →
-    let a = c .before .before .before .before .before .before .args in
+    let a = caller (c .before) .args in
     Passed (now (a .shares)) (length (now (a .out))) (shiftRange (a .modulus) (a .t)) (a .modulus)
 good c = all-passed _ _ _ _ (sym (number (c .before)) ∙ c .if1 .left)
 

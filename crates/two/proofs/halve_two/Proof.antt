@@ -22,34 +22,41 @@ sub-below m a b h k e = rw e (sums (2 * m) (omega arith) .sub-below a b h k)
 join-below : (m i x y : ℕ) {r : ℕ} → x < 2 * m → r ≡ joined (2 * m) (y % 2) i x → r < 2 * m
 join-below m i x y h e = rw e (joined-below (2 * m) (y % 2) (omega arith) (omega arith) i x h)
 
+-- where the draw gave its number, seen from where A is whole; and the function's start
+abbrev drew : tie.After-joined2 → tie.After-known-told
+drew c = c .before .before .before .before
+
+abbrev start : tie.After-known-told → tie.Start
+start c = c .before .before .before .before .before
+
 -- at each step of the code
 module _ (c : tie.After-known-told) where
-  drawn : c .before .r .given .0 .0 < 2 * c .before .before .before .before .before .args .m
+  drawn : c .before .r .given .0 .0 < 2 * start c .args .m
   drawn = let d = c .before .before .before in got-below _ _ _ _ (d .draw .ensures) (c .before .r .given .1)
 
-  parity-below : c .before .before .before .before .before .args .x % 2 < 2 * c .before .before .before .before .before .args .m
-  parity-below = omega (arith, c .before .before .before .before .before .pre .0)
+  parity-below : start c .args .x % 2 < 2 * start c .args .m
+  parity-below = omega (arith, start c .pre .0)
 
-sum-below : (c : tie.After-add-mod) → c .add-mod .result < 2 * c .before .before .before .before .before .before .args .m
+  zero-below : 0 < 2 * start c .args .m
+  zero-below = omega (arith, drawn)
+
+sum-below : (c : tie.After-add-mod) → c .add-mod .result < 2 * start (c .before) .args .m
 sum-below c = add-below _ _ _ (parity-below (c .before)) (drawn (c .before)) (c .add-mod .ensures)
 
-a-below : (c : tie.After-joined) → c .joined .result < 2 * c .before .before .before .before .before .before .before .args .m
-a-below c = join-below _ 0 _ (c .before .before .before .before .before .before .before .args .y) (sum-below (c .before)) (c .joined .ensures)
+a-below : (c : tie.After-joined) → c .joined .result < 2 * start (c .before .before) .args .m
+a-below c = join-below _ 0 _ (start (c .before .before) .args .y) (sum-below (c .before)) (c .joined .ensures)
 
-zero-below : (c : tie.After-known-told) → 0 < 2 * c .before .before .before .before .before .args .m
-zero-below c = omega (arith, drawn c)
-
-difference-below : (c : tie.After-sub-mod) → c .sub-mod .result < 2 * c .before .before .before .before .before .before .before .before .args .m
+difference-below : (c : tie.After-sub-mod) → c .sub-mod .result < 2 * start (c .before .before .before) .args .m
 difference-below c = let k = c .before .before .before in sub-below _ _ _ (zero-below k) (drawn k) (c .sub-mod .ensures)
 
-b-below : (c : tie.After-joined2) → c .joined2 .result < 2 * c .before .before .before .before .before .before .before .before .before .args .m
-b-below c = join-below _ 1 _ (c .before .before .before .before .before .before .before .before .before .args .y) (difference-below (c .before)) (c .joined2 .ensures)
+b-below : (c : tie.After-joined2) → c .joined2 .result < 2 * start (drew c) .args .m
+b-below c = join-below _ 1 _ (start (drew c) .args .y) (difference-below (c .before)) (c .joined2 .ensures)
 
-d-below : (c : tie.After-sub-mod2) → c .sub-mod2 .result < 2 * c .before .before .before .before .before .before .before .before .before .before .args .m
-d-below c = sub-below _ _ _ (c .before .before .before .before .before .before .before .before .before .before .pre .0) (a-below (c .before .before .before)) (c .sub-mod2 .ensures)
+d-below : (c : tie.After-sub-mod2) → c .sub-mod2 .result < 2 * start (drew (c .before)) .args .m
+d-below c = sub-below _ _ _ (start (drew (c .before)) .pre .0) (a-below (c .before .before .before)) (c .sub-mod2 .ensures)
 
-e-below : (c : tie.After-sub-mod3) → c .sub-mod3 .result < 2 * c .before .before .before .before .before .before .before .before .before .before .before .args .m
-e-below c = sub-below _ _ _ (c .before .before .before .before .before .before .before .before .before .before .before .pre .1) (b-below (c .before .before)) (c .sub-mod3 .ensures)
+e-below : (c : tie.After-sub-mod3) → c .sub-mod3 .result < 2 * start (drew (c .before .before)) .args .m
+e-below c = sub-below _ _ _ (start (drew (c .before .before)) .pre .1) (b-below (c .before .before)) (c .sub-mod3 .ensures)
 
 mul-double : tie.Need-mul-double
 mul-double c = search needs
@@ -84,10 +91,10 @@ joined-requires-2 : tie.Need-joined-requires-2
 joined-requires-2 c κs = let l = difference-below c in (l, omega arith, omega arith)
 
 sub-mod-requires-2 : tie.Need-sub-mod-requires-2
-sub-mod-requires-2 c κs = (c .before .before .before .before .before .before .before .before .before .pre .0, a-below (c .before .before))
+sub-mod-requires-2 c κs = (start (drew c) .pre .0, a-below (c .before .before))
 
 sub-mod-requires-3 : tie.Need-sub-mod-requires-3
-sub-mod-requires-3 c κs = (c .before .before .before .before .before .before .before .before .before .before .pre .1, b-below (c .before))
+sub-mod-requires-3 c κs = (start (drew (c .before)) .pre .1, b-below (c .before))
 
 add-mod-requires-2 : tie.Need-add-mod-requires-2
 add-mod-requires-2 c κs = let l = d-below (c .before) in (e-below c, omega arith)

@@ -20,8 +20,12 @@ use Rattle.widens.proofs.widen.Statement.{statement}
 use Rattle.widens.proofs.widen.Tie as tie
 
 -- the first check that failed, the parameters being in range or not
+-- what the caller lent
+abbrev caller : tie.After-first-failing → tie.Start
+caller c = c .before .before .before .before .before
+
 number : (c : tie.After-first-failing) →
-    let a = c .before .before .before .before .before .args in
+    let a = caller c .args in
     c .first-failing .result ≡ firstFailing (checks (now (a .shares)) (length (now (a .out))) (kindRange (a .set) (a .kind)) q)
 number c = checked _ _ (c .first-failing .ensures) (c .before .kind-range .ensures) (λ t. refl)
 
@@ -82,7 +86,7 @@ returns-2 c = let f = c .before .before in
     let o = f .before .before in
     let p = o .before .before in
     let m = p .before .before in
-    let a = m .before .before .before .before .before .before .args in
+    let a = caller (m .before) .args in
     let g = admitted p in
     silent-ran _ _ _ _ _ _ _ (sym (g .passes ∙ number (m .before))) (f .widen-by .ensures)
     (ap (λ k. run (bind (widen k (now (a .shares))) (refresh (widened k))) (now (a .tape)) start) (o .of-kind .ensures ∙ ap (λ (p : Params). ofKind p (a .kind)) (g .constants)))
