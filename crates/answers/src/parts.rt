@@ -6,7 +6,7 @@ use inputs::share;
 use trials::{fill, low, mix, recombined};
 
 // The number answered, the high part, and what the low shares recombine to.
-#[derive(Drop)]
+#[derive(Clone, Copy)]
 pub struct Parts {
     pub number: u32,
     pub high: u32,

@@ -13,7 +13,7 @@ use shifts::{shift, to_boolean};
 use widens::widen;
 
 // What is kept of the answers: how often each number came, and a checksum.
-#[derive(Drop)]
+#[derive(Clone, Copy)]
 pub struct Tally {
     pub counts: [u32; 6],
     pub sum: u32,

@@ -8,7 +8,7 @@ use params::{Choice, Params};
 use words::power;
 
 // What the checks answer, of a gadget that goes by a parameter set: the set, or the number of the first check that fails.
-#[derive(Drop)]
+#[derive(Clone, Copy)]
 pub enum Admitted {
     Set(Params),
     Refused(u32),

@@ -6,7 +6,7 @@ pub use rule::to_arithmetic;
 use tape::Cursor;
 
 // What a refresh of up to nine shares gives. Only this conversion has a ninth share.
-#[derive(Drop)]
+#[derive(Clone, Copy)]
 pub struct SharedNine {
     pub words: [u32; 9],
     pub cursor: Cursor,

@@ -17,7 +17,7 @@ use tape::Cursor;
 use words::{alpha, power};
 
 // The high part and the place of the next word, or that the tape has ended.
-#[derive(Drop)]
+#[derive(Clone, Copy)]
 pub enum High {
     Opened(u32, Cursor),
     Ended,

@@ -8,7 +8,7 @@ use shares::Shared;
 
 // What a caller gets back: 0, or the number of a refusal; and how many tape words were read, 0 in a refusal.
 #[repr(C)]
-#[derive(Drop)]
+#[derive(Clone, Copy)]
 pub struct Answer {
     pub number: u32,
     pub used: usize,
@@ -16,7 +16,7 @@ pub struct Answer {
 
 // What Decompose answers: 0, or the number of a refusal; the high part, and how many tape words were read, both 0 in a refusal.
 #[repr(C)]
-#[derive(Drop)]
+#[derive(Clone, Copy)]
 pub struct Decomposed {
     pub number: u32,
     pub high: u32,
@@ -26,7 +26,7 @@ pub struct Decomposed {
 // What the verdict answers: `number`, 0 or that of a refusal; `verdict`, 1 where the coefficient is accepted and 0 where it is rejected; what was
 // opened, and how many tape words were read. In a refusal all but `number` are 0.
 #[repr(C)]
-#[derive(Drop)]
+#[derive(Clone, Copy)]
 pub struct Judged {
     pub number: u32,
     pub verdict: u32,

@@ -5,7 +5,7 @@ pub use sets::known;
 use sets::{set, set_and_kind};
 
 // A gadget's parameters; the second is 0 where it has but one.
-#[derive(Drop)]
+#[derive(Clone, Copy)]
 pub struct Pair {
     pub first: u32,
     pub second: u32,

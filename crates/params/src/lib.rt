@@ -4,7 +4,7 @@ ghost use Rattle.params.specs.Sets.{bounds, set_of, known, of_kind};
 ghost use Rattle.params.specs.Answers.{choice_stands_for};
 
 // Of one kind of coefficient: a size below the bound a is accepted, up to the reach b widening keeps the value, and rho is the verdict's shift.
-#[derive(Drop)]
+#[derive(Clone, Copy)]
 pub struct Bounds {
     pub a: u32,
     pub b: u32,
@@ -20,7 +20,7 @@ impl Bounds {
 }
 
 // The constants of one set. Kind 1 is z and kind 2 is r̃.
-#[derive(Drop)]
+#[derive(Clone, Copy)]
 pub struct Params {
     pub gamma1: u32,
     pub gamma2: u32,
@@ -32,7 +32,7 @@ pub struct Params {
 }
 
 // The set of a number, or that there is none.
-#[derive(Drop)]
+#[derive(Clone, Copy)]
 pub enum Choice {
     Set(Params),
     Unknown,

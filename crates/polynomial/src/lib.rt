@@ -14,7 +14,7 @@ use sample::drawn_mod_q;
 use tape::Cursor;
 
 // What was lent is filled, and the place of the next word; or the tape has ended, and nothing is said of what was lent.
-#[derive(Drop)]
+#[derive(Clone, Copy)]
 pub enum Written {
     Filled(Cursor),
     Ended,

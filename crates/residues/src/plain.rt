@@ -4,7 +4,7 @@ ghost use Rattle.std.specs.Prelude.{◌+◌, ◌<◌, ◌≤◌};
 use trials::gamma2;
 
 // The high part, and the low part as a residue.
-#[derive(Drop)]
+#[derive(Clone, Copy)]
 pub struct Parts {
     pub high: u32,
     pub low: u32,

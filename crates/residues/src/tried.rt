@@ -6,7 +6,7 @@ use decomposes::decompose;
 use trials::{fill, mix, recombined};
 
 // How many residues were tried, at how many the answer was wrong, and a checksum of the answers.
-#[derive(Drop)]
+#[derive(Clone, Copy)]
 pub struct Tally {
     pub residues: u32,
     pub wrong: u32,

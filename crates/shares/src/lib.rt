@@ -10,7 +10,7 @@ use params::Params;
 use tape::Cursor;
 
 // What a gadget gives: its shares and the place of the next word, or, where `ok` is false, that the tape has ended.
-#[derive(Drop)]
+#[derive(Clone, Copy)]
 pub struct Shared {
     pub words: [u32; Params::MOST],
     pub cursor: Cursor,

@@ -7,13 +7,13 @@ ghost use Rattle.tape.specs.Answers.{draw_stands_for};
 use words::bits;
 
 // The place on the tape that each draw hands on to the next: the number of words read so far.
-#[derive(Drop)]
+#[derive(Clone, Copy)]
 pub struct Cursor {
     pub at: usize,
 }
 
 // A draw answers a number, with the moved place, or that the tape has ended.
-#[derive(Drop)]
+#[derive(Clone, Copy)]
 pub enum Draw {
     Got(u32, Cursor),
     Ended,
