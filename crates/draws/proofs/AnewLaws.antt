@@ -116,11 +116,11 @@ reads_distinct : {tape ms : List ℕ} {p : Cursor} {rs ws : List ℕ} {q : Curso
 unfolding marked
 reads_distinct x [] = no_place
 reads_distinct none (b ∷ bs) = no_place
-reads_distinct (one a x) (false ∷ bs) = reads_distinct x bs
-reads_distinct (one {s = s} {ws = ws} a x) (true ∷ bs) =
+reads_distinct (one {ms = ms} a x) (false ∷ bs) = reads_distinct {ms = ms} x bs
+reads_distinct (one {ms = ms} {s = s} {ws = ws} a x) (true ∷ bs) =
     let o = drawn_moves a in
     let n : ¬ (Among (s.at - 1) (marked bs ws)) = λ y. let w = reads_within x (s.at - 1) (among_marked bs ws (s.at - 1) y) in omega arith in
-    and_place n (reads_distinct x bs)
+    and_place n (reads_distinct {ms = ms} x bs)
 
 pub reads_on_tape : {tape ms : List ℕ} {p : Cursor} {rs ws : List ℕ} {q : Cursor} → Reads tape ms p rs ws q → (i : ℕ) → Among i ws → i < length tape
 reads_on_tape none i (a, l, e) = absurd (omega arith)
