@@ -1,13 +1,12 @@
 -- Laws of arrays of shares, and of what the code's answers stand for.
 use mathlib.Core.Path.{◌≡◌, refl, sym, ap, subst, ◌∙◌}
-use mathlib.Core.Bool.{Bool, true, false, not}
+use mathlib.Core.Bool.{Bool, true, false}
 use mathlib.Core.List.{List}
 use Prim.Native.Nat.{ℕ, ◌+◌, ◌≤◌, ◌<◌}
 use native.Mathlib.Nat.{le_antisymm}
 use native.Mathlib.Omega.{arith}
 use lib.ListN.{length, get_or, take, set, replicate, length-set, length-replicate}
 use lib.Seq.{take-length, take-take}
-use borrow.Author.Tests.{not-true, not-false}
 use Rattle.numbers.specs.Lists.{Words}
 use Rattle.numbers.proofs.WordsLaws.{words_at, words_set, words_same, copy_more}
 use Rattle.tape.specs.declared.Cursor.{Cursor}
@@ -74,30 +73,30 @@ module _ {size : ℕ} {xs : List ℕ} {i : ℕ} {words : List ℕ} (a : Copying 
 
 -- what the fields of an answer stand for, where it was found to be whole, and where not
 module _ (n : ℕ) (ok : Bool) (words : List ℕ) (c : Cursor) where
-  pub handed_whole : not ok ≡ false → handed n ok words c ≡ ran (take n words) c
+  pub handed_whole : ok ≡ true → handed n ok words c ≡ ran (take n words) c
   unfolding handed
-  handed_whole t = rw (not-false ok t)
+  handed_whole t = rw t
 
-  pub handed_none : not ok ≡ true → handed n ok words c ≡ ended
+  pub handed_none : ok ≡ false → handed n ok words c ≡ ended
   unfolding handed
-  handed_none t = rw (not-true ok t)
+  handed_none t = rw t
 
   -- and what follows it
   module _ {A : Type 0} (f : List ℕ → Cursor → Ran A) where
-    pub next_whole : not ok ≡ false → f (take n words) c ≡ next (handed n ok words c) f
+    pub next_whole : ok ≡ true → f (take n words) c ≡ next (handed n ok words c) f
     unfolding next after
     next_whole t = rw (handed_whole t)
 
-    pub next_none : not ok ≡ true → ended ≡ next (handed n ok words c) f
+    pub next_none : ok ≡ false → ended ≡ next (handed n ok words c) f
     unfolding next after
     next_none t = rw (handed_none t)
 
 module _ {size n M : ℕ} {ok : Bool} {words : List ℕ} {c : Cursor} {x : Ran (List ℕ)} where
   -- what a call gave
-  pub gave : Given size n M ok words c x → not ok ≡ false → x ≡ ran (take n words) c
+  pub gave : Given size n M ok words c x → ok ≡ true → x ≡ ran (take n words) c
   gave g t = sym g.is ∙ handed_whole n ok words c t
 
-  pub stopped : Given size n M ok words c x → not ok ≡ true → x ≡ ended
+  pub stopped : Given size n M ok words c x → ok ≡ false → x ≡ ended
   stopped g t = sym g.is ∙ handed_none n ok words c t
 
   -- and so of what is the same
