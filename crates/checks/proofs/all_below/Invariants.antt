@@ -1,0 +1,10 @@
+use borrow.Author.Rules.{rules}
+use mathlib.Core.Path.{◌≡◌, refl, ◌∙◌}
+use Prim.Native.Nat.{◌-◌, ◌≤◌}
+use lib.ListN.{length, drop}
+use Rattle.checks.specs.Checks.{all_below}
+use Rattle.checks.proofs.CheckLaws.{below_end, below_stop, below_more}
+use Rattle.checks.proofs.all_below.Given as goal
+
+abbrev pub invariant-loop-i : goal.invariant-loop-i
+invariant-loop-i l = (l.i-end ≡ length l.shares) × (l.i ≤ l.i-end) × (all_below l.m (drop l.i l.shares) ≡ all_below l.m l.shares)
