@@ -35,7 +35,6 @@ use Rattle.gate.specs.Told.{Outcome}
 use Rattle.sizes.specs.Widening.{wide, widened, widen}
 use Rattle.sizes.proofs.WideningSteps.{wide_two}
 use Rattle.sizes.proofs.WideningGives.{widen_gives}
-use Rattle.sizes.specs.Product.{product}
 use Rattle.sizes.proofs.ProductGives.{product_gives}
 use Rattle.sizes.specs.ZeroTest.{zero_test, scales_plan}
 use Rattle.sizes.specs.Sides.{side, sides_product, sides_plan}

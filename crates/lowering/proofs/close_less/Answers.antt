@@ -4,7 +4,6 @@ use mathlib.Core.Logic.{⊎_elim}
 use Prim.Native.Nat.{◌-◌}
 use native.Mathlib.Omega.{arith}
 use lib.ListN.{get_or, take}
-use borrow.Author.Tests.{not-false}
 use Rattle.numbers.specs.Modulo.{sub_mod}
 use Rattle.numbers.proofs.WordsLaws.{words_same}
 use Rattle.draws.specs.Draws.{run}
@@ -16,7 +15,7 @@ use Rattle.shares.proofs.TurnLaws.{Writing, writing_words, writing_none, writing
 use Rattle.first.specs.First.{take_from_first}
 use Rattle.lowering.proofs.LessLaws.{less_first, less_other, less-held, less-start}
 use Rattle.lowering.proofs.close_less.Goals as goal
-use Rattle.lowering.proofs.close_less.Goals.{After-sub_mod-first, Else-not-s, Joined-i-eq0}
+use Rattle.lowering.proofs.close_less.Goals.{then-i-eq0, else-i-eq0, After-sub_mod-first, Else-not-s, Joined-i-eq0}
 
 held : (c : Else-not-s) → let a = c.args in Held 8 a.n a.m a.s.words
 held c = c.requires.1 c.if-not-s.false
@@ -31,7 +30,10 @@ read : (c : Joined-i-eq0) →
     c.if-i-eq0.x ≡ get_or (take_from_first (arithmetic a.m) a.offset a.s.words) c.loop-i.i 0
 read c =
     let h = held (goal.at.Joined-i-eq0 c).Else-not-s in
-    ⊎_elim (λ w. w.1 ∙ lowered (goal.at.Joined-i-eq0 c).After-sub_mod-first ∙ sym (less_first _ _ _ _ h _ (omega (arith, w.0.taken)))) (λ w. w.2 ∙ sym (less_other _ _ _ _ h _ (omega (arith, w.0.left)))) c.if-i-eq0.branch
+    elim c.if-i-eq0.branch [
+    | then-i-eq0 w ↦ w.x-is ∙ lowered (goal.at.Joined-i-eq0 c).After-sub_mod-first ∙ sym (less_first _ _ _ _ h _ (omega (arith, w.if-i-eq0.true)))
+    | else-i-eq0 w ↦ w.x-is ∙ sym (less_other _ _ _ _ h _ (omega (arith, w.if-i-eq0.false)))
+    ]
 
 pub returns-then-not-s : goal.returns-then-not-s
 returns-then-not-s c = cut_off c.ended.ensures (next_none _ _ _ _ _ c.if-not-s.true)

@@ -1,0 +1,17 @@
+use borrow.Author.Rules.{rules}
+use Prim.Native.Nat.{◌-◌, ◌*◌, ◌%◌}
+use lib.ListN.{get_or}
+use Rattle.numbers.specs.Modulo.{q}
+use Rattle.numbers.proofs.AlongLaws.{Along, along-start, along_more, along_all}
+use Rattle.sizes.specs.Product.{begun}
+use Rattle.product.proofs.begun.Goals as goal
+
+pub loop-i-init : goal.loop-i-init
+loop-i-init c = along-start (search rules)
+
+pub loop-i-preserved : goal.loop-i-preserved
+loop-i-preserved c = along_more c.loop-i.invariant c.loop-i-test.true c.mul_q.ensures
+
+pub returns : goal.returns
+unfolding begun
+returns c = along_all c.loop-i.invariant c.loop-i-test.false

@@ -1,0 +1,10 @@
+use borrow.Author.Rules.{rules}
+use Prim.Native.Nat.{◌-◌, ◌*◌, ◌%◌}
+use lib.ListN.{get_or}
+use Rattle.numbers.specs.Modulo.{q}
+use Rattle.numbers.proofs.AlongLaws.{Along, along-start, along_more, along_all}
+use Rattle.sizes.specs.Product.{begun}
+use Rattle.product.proofs.begun.Given as goal
+
+abbrev pub invariant-loop-i : goal.invariant-loop-i
+invariant-loop-i l = Along 8 (λ j x. x * get_or l.r j 0 % q) l.initial.words l.i l.words

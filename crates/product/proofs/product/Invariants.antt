@@ -1,0 +1,15 @@
+use borrow.Author.Rules.{rules}
+use mathlib.Core.Path.{refl}
+use Prim.Native.Nat.{◌-◌}
+use lib.ListN.{take}
+use borrow.Author.Tests.{not-false}
+use Rattle.numbers.specs.Modulo.{q}
+use Rattle.draws.specs.Draws.{run}
+use Rattle.shares.proofs.ArraysLaws.{gave, stopped, whole, cut_off}
+use Rattle.shares.proofs.LoopLaws.{Looping, looping_done, looping_ended, looping_more}
+use Rattle.sizes.specs.Product.{row, product}
+use Rattle.sizes.proofs.ProductSteps.{product-start}
+use Rattle.product.proofs.product.Given as goal
+
+abbrev pub invariant-loop-i : goal.invariant-loop-i
+invariant-loop-i l = Looping (row q (take l.n l.l) (take l.n l.r)) l.n 8 l.n q l.tape (run (product q (take l.n l.l) (take l.n l.r)) l.tape l.initial.cur) l.i l.words l.cur
