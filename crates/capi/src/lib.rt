@@ -4,7 +4,7 @@ ghost use Rattle.gate.specs.Told.{stands_for, parts_stand_for, judged_stands_for
 ghost use Rattle.gate.specs.Gadget.{tells};
 ghost use Rattle.gate.specs.Sampler.{samples};
 ghost use Rattle.gate.specs.Judge.{judges};
-ghost use Rattle.demands.specs.Gadgets.{refresh_gadget, boolean_gadget, shift_gadget, to_boolean_gadget, to_arithmetic_gadget, to_mod_qGadget, sampler, polynomial_sampler, widen_gadget, decompose_gadget, verdict_gadget};
+ghost use Rattle.demands.specs.Gadgets.{refresh_gadget, boolean_gadget, shift_gadget, to_boolean_gadget, to_arithmetic_gadget, to_mod_q_gadget, sampler, polynomial_sampler, widen_gadget, decompose_gadget, verdict_gadget};
 
 use gadgets::{Answer, Decomposed, Judged};
 
@@ -56,7 +56,7 @@ pub extern "C" fn xe_to_boolean(shares: &[u32], tape: &[u32], k: u32, out: &mut 
 
 #[unsafe(no_mangle)]
 pub extern "C" fn xe_to_mod_q(shares: &[u32], tape: &[u32], mu: u32, out: &mut [u32]) -> Answer
-    ensures { stands_for result out.new ≡ tells (to_mod_qGadget mu) shares.now tape.now out.old }
+    ensures { stands_for result out.new ≡ tells (to_mod_q_gadget mu) shares.now tape.now out.old }
 {
     gadgets::to_mod_q(shares, tape, mu, out)
 }

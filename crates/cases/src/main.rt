@@ -4,88 +4,89 @@ use calls::Tally;
 use pairs::Pair;
 use params::Params;
 use shown::{all_sizes, in_shares, name, number, numbers, text};
+use std::io;
 use tape::{Cursor, Draw};
 use trials::low;
 
 // A draw below q from a tape of two words: what it gives, and the words used.
-fn draw_below_q(a: u32, b: u32) {
+fn draw_below_q(rt: &impl Print, a: u32, b: u32) -> io::Result<()> {
     let tape = [a, b];
-    text(b"draw");
+    text(rt, b"draw")?;
     let Draw::Got(r, c) = Cursor::start().draw(&tape, Params::Q) else {
-        text(b" ended\n");
-        return;
+        return text(rt, b" ended\n");
     };
-    number(r);
-    number(low(c.at));
-    text(b"\n");
+    number(rt, r)?;
+    number(rt, low(c.at))?;
+    text(rt, b"\n")
 }
 
 // A call on two shares: the number, the words used, and the output slice, which begins as 7s.
-fn on_two(gadget: u32, shares: &[u32], tape: &[u32], p: Pair) {
+fn on_two(rt: &impl Print, gadget: u32, shares: &[u32], tape: &[u32], p: Pair) -> io::Result<()> {
     let mut out = [7u32; 2];
     let told = calls::call(gadget, shares, tape, p, &mut out);
-    name(gadget);
-    number(told.number);
-    number(low(told.used));
-    numbers(&out);
-    text(b"\n");
+    name(rt, gadget)?;
+    number(rt, told.number)?;
+    number(rt, low(told.used))?;
+    numbers(rt, &out)?;
+    text(rt, b"\n")
 }
 
 // A shift by 1 from 10.
-fn shift_of(tape: &[u32]) {
-    on_two(3, &[7, 8], tape, Pair::of(10, 1));
+fn shift_of(rt: &impl Print, tape: &[u32]) -> io::Result<()> {
+    on_two(rt, 3, &[7, 8], tape, Pair::of(10, 1))
 }
 
-fn conversions() {
-    on_two(4, &[6, 7], &[0, 0, 3], Pair::of(3, 0));
-    on_two(5, &[6, 3], &[1, 2, 7], Pair::of(4, 0));
+fn conversions(rt: &impl Print) -> io::Result<()> {
+    on_two(rt, 4, &[6, 7], &[0, 0, 3], Pair::of(3, 0))?;
+    on_two(rt, 5, &[6, 3], &[1, 2, 7], Pair::of(4, 0))
 }
 
-fn by_hand() {
-    draw_below_q(8380417, 8380416);
-    draw_below_q(8388608, 0);
-    shift_of(&[3, 4]);
-    shift_of(&[12, 3, 6, 4]);
-    shift_of(&[12, 3, 6]);
-    conversions();
-    on_two(7, &[0, 0], &[0, 0, 0, 0, 0, 0], Pair::of(44, 0));
+fn by_hand(rt: &impl Print) -> io::Result<()> {
+    draw_below_q(rt, 8380417, 8380416)?;
+    draw_below_q(rt, 8388608, 0)?;
+    shift_of(rt, &[3, 4])?;
+    shift_of(rt, &[12, 3, 6, 4])?;
+    shift_of(rt, &[12, 3, 6])?;
+    conversions(rt)?;
+    on_two(rt, 7, &[0, 0], &[0, 0, 0, 0, 0, 0], Pair::of(44, 0))
 }
 
 // The end of a line.
-fn told(t: Tally) {
+fn told(rt: &impl Print, t: Tally) -> io::Result<()> {
     let counts = t.counts;
-    numbers(&counts);
-    number(t.sum);
-    text(b"\n");
+    numbers(rt, &counts)?;
+    number(rt, t.sum)?;
+    text(rt, b"\n")
 }
 
-fn line(gadget: u32, n: usize) {
+fn line(rt: &impl Print, gadget: u32, n: usize) -> io::Result<()> {
     let t = rounds::all_rounds(gadget, n);
-    name(gadget);
-    number(low(n));
-    told(t);
+    name(rt, gadget)?;
+    number(rt, low(n))?;
+    told(rt, t)
 }
 
-fn lines(gadget: u32) {
+fn lines(rt: &impl Print, gadget: u32) -> io::Result<()> {
     for n in 0..11 {
-        line(gadget, n);
+        line(rt, gadget, n)?;
     }
+    Ok(())
 }
 
-fn far_line(gadget: u32) {
+fn far_line(rt: &impl Print, gadget: u32) -> io::Result<()> {
     let t = calls::all_counts(gadget);
-    name(gadget);
-    text(b" far");
-    told(t);
+    name(rt, gadget)?;
+    text(rt, b" far")?;
+    told(rt, t)
 }
 
-fn main() {
-    by_hand();
+fn main(rt: HostRuntime) -> io::Result<()> {
+    by_hand(&rt)?;
     for gadget in 1..12 {
-        lines(gadget);
+        lines(&rt, gadget)?;
     }
-    far_line(7);
-    far_line(8);
-    in_shares();
-    all_sizes();
+    far_line(&rt, 7)?;
+    far_line(&rt, 8)?;
+    in_shares(&rt)?;
+    all_sizes(&rt)
 }

@@ -2,7 +2,7 @@
 ghost use Rattle.std.specs.Prelude.{◌≡◌};
 ghost use Rattle.gate.specs.Told.{stands_for};
 ghost use Rattle.gate.specs.Gadget.{tells};
-ghost use Rattle.demands.specs.Gadgets.{to_arithmetic_gadget, to_mod_qGadget};
+ghost use Rattle.demands.specs.Gadgets.{to_arithmetic_gadget, to_mod_q_gadget};
 
 use checks::{first_failing, inside, width_bound};
 use copies::copy_in;
@@ -26,7 +26,7 @@ pub fn to_arithmetic(shares: &[u32], tape: &[u32], k: u32, out: &mut [u32]) -> A
 }
 
 pub fn to_mod_q(shares: &[u32], tape: &[u32], mu: u32, out: &mut [u32]) -> Answer
-    ensures { stands_for result out.new ≡ tells (to_mod_qGadget mu) shares.now tape.now out.old }
+    ensures { stands_for result out.new ≡ tells (to_mod_q_gadget mu) shares.now tape.now out.old }
 {
     let number = first_failing(shares, out.len(), inside(1, 20, mu), width_bound(mu));
     if number != 0 {

@@ -38,13 +38,13 @@ pub record Answers (c : CallClaim) : Type 0 where
   pub fields : (tape : List ℕ) (p : Cursor) (o : Outcome) → c.Right tape p o → length o.others ≡ c.fields
 
 -- a check of parameters, and what it says of them
-pub record Tested (in_range : Bool) (InRange : Type 0) : Type 0 where
-  pub in_range : in_range ≡ true → InRange
-  pub range_in : InRange → in_range ≡ true
+pub record Tested (test : Bool) (InRange : Type 0) : Type 0 where
+  pub in_range : test ≡ true → InRange
+  pub range_in : InRange → test ≡ true
 
 -- and what the output's words are then below
-pub record Range (in_range : Bool) (InRange : Type 0) (M : ℕ) : Type 0 where
-  pub tested : Tested in_range InRange
+pub record Range (test : Bool) (InRange : Type 0) (M : ℕ) : Type 0 where
+  pub tested : Tested test InRange
   pub positive : InRange → 0 < M
   pub word : InRange → M ≤ 2 ^ 32
 

@@ -22,11 +22,11 @@ use Rattle.masks.specs.ToModulus.{to_modulus_plan}
 use Rattle.masks.proofs.ModulusGives.{to_modulus_keeps}
 use Rattle.gate.specs.Told.{stands_for, silent}
 use Rattle.gate.specs.Gadget.{silent_steps, tells}
-use Rattle.demands.specs.Gadgets.{to_arithmetic_gadget, to_mod_qGadget}
+use Rattle.demands.specs.Gadgets.{to_arithmetic_gadget, to_mod_q_gadget}
 use Rattle.demands.specs.Claim.{plan}
 use Rattle.demands.specs.Demands.{Demands}
 use Rattle.demands.specs.Unique.{Unique}
-use Rattle.demands.specs.Convert.{to_arithmetic_claim, to_mod_qClaim}
+use Rattle.demands.specs.Convert.{to_arithmetic_claim, to_mod_q_claim}
 use Rattle.demands.proofs.Answers.{number_range, width_range}
 use Rattle.demands.proofs.Steps.{Steps}
 use Rattle.demands.proofs.Demands.{demands}
@@ -44,8 +44,8 @@ to_arithmetic_steps k =
           (λ ys a. record { opened = refl; words = a.words; recombined = a.is });
     }
 
-to_mod_q_steps : (μ : ℕ) → Steps (to_mod_qClaim μ)
-unfolding to_mod_qGadget silent_steps xor_all
+to_mod_q_steps : (μ : ℕ) → Steps (to_mod_q_claim μ)
+unfolding to_mod_q_gadget silent_steps xor_all
 to_mod_q_steps μ =
     record {
       range = number_range 20 μ q (omega arith) (λ h. omega arith);
@@ -61,14 +61,14 @@ to_mod_q_steps μ =
 pub to_arithmetic_demands : (k : ℕ) → Demands (to_arithmetic_claim k)
 to_arithmetic_demands k = demands (to_arithmetic_steps k)
 
-pub to_mod_q_demands : (μ : ℕ) → Demands (to_mod_qClaim μ)
+pub to_mod_q_demands : (μ : ℕ) → Demands (to_mod_q_claim μ)
 to_mod_q_demands μ = demands (to_mod_q_steps μ)
 
 pub to_arithmetic_unique : (k : ℕ) (shares tape out : List ℕ) → Unique stands_for (tells (to_arithmetic_gadget k) shares tape out)
 to_arithmetic_unique k = unique (to_arithmetic_gadget k)
 
-pub to_mod_q_unique : (μ : ℕ) (shares tape out : List ℕ) → Unique stands_for (tells (to_mod_qGadget μ) shares tape out)
-to_mod_q_unique μ = unique (to_mod_qGadget μ)
+pub to_mod_q_unique : (μ : ℕ) (shares tape out : List ℕ) → Unique stands_for (tells (to_mod_q_gadget μ) shares tape out)
+to_mod_q_unique μ = unique (to_mod_q_gadget μ)
 
 -- 3·2^d − 3 draws a call, and with mod q α·d² more, for d = n - 1
 pub to_arithmetic_call_draws : (k n : ℕ) → 0 < n → length (plan (to_arithmetic_claim k) n) ≡ 3 * 2 ^ (n - 1) - 3
@@ -76,7 +76,7 @@ unfolding plan refresh_plan to_arithmetic_plan
 to_arithmetic_call_draws k n h =
     length-append (to_arithmetic_plan k n) _ ∙ rw (length-replicate (3 * 2 ^ (n - 1) - n - 2) (2 ^ k), length-replicate (n - 1)) (omega (arith, draws_fit (n - 1)))
 
-pub to_mod_q_call_draws : (μ n : ℕ) → 0 < n → length (plan (to_mod_qClaim μ) n) ≡ 3 * 2 ^ (n - 1) - 3 + alpha n * ((n - 1) * (n - 1))
+pub to_mod_q_call_draws : (μ n : ℕ) → 0 < n → length (plan (to_mod_q_claim μ) n) ≡ 3 * 2 ^ (n - 1) - 3 + alpha n * ((n - 1) * (n - 1))
 unfolding plan refresh_plan to_modulus_plan to_arithmetic_plan
 to_mod_q_call_draws μ n h =
     length-append (to_modulus_plan q μ n) _

@@ -17,9 +17,9 @@ use Rattle.masks.proofs.SampleGives.{coefficient_gives}
 use Rattle.masks.proofs.MaskLaws.{coefficient_masks}
 use Rattle.masks.proofs.PolynomialGives.{polynomial_gives}
 use Rattle.masks.proofs.MasksLaws.{polynomial_masks}
-use Rattle.demands.specs.Gadgets.{sampler, polynomial_sampler, to_mod_qGadget}
+use Rattle.demands.specs.Gadgets.{sampler, polynomial_sampler, to_mod_q_gadget}
 use Rattle.demands.specs.Claim.{plan}
-use Rattle.demands.specs.Convert.{to_mod_qClaim}
+use Rattle.demands.specs.Convert.{to_mod_q_claim}
 use Rattle.demands.specs.Demands.{SamplerDemands}
 use Rattle.demands.specs.Unique.{Unique}
 use Rattle.demands.specs.Sample.{sampler_claim, polynomial_claim}
@@ -69,10 +69,10 @@ sample_polynomial_unique set n tape out = unique_told (samples (polynomial_sampl
 
 -- 3·2^d − 3 + n + α·d² draws a coefficient, for d = n - 1, and 256 times as many a polynomial
 pub sample_call_draws : (set n : ℕ) → 0 < n → length (coefficient_plan (params_of set) n) ≡ 3 * 2 ^ (n - 1) - 3 + n + alpha n * ((n - 1) * (n - 1))
-unfolding coefficient_plan plan to_mod_qGadget
+unfolding coefficient_plan plan to_mod_q_gadget
 sample_call_draws set n h =
     let μ : ℕ = (params_of set).mu in
-    length-append (mask_plan (params_of set) n) (plan (to_mod_qClaim μ) n) ∙ ap₂ ◌+◌ (length-replicate n (2 ^ μ)) (to_mod_q_call_draws μ n h) ∙ omega arith
+    length-append (mask_plan (params_of set) n) (plan (to_mod_q_claim μ) n) ∙ ap₂ ◌+◌ (length-replicate n (2 ^ μ)) (to_mod_q_call_draws μ n h) ∙ omega arith
 
 pub sample_polynomial_call_draws : (set n : ℕ) → length (polynomial_plan (params_of set) n) ≡ 256 * length (coefficient_plan (params_of set) n)
 unfolding polynomial_plan

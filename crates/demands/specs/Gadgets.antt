@@ -44,8 +44,8 @@ unfoldable pub to_boolean_gadget : ℕ → Gadget
 to_boolean_gadget k = silent_gadget (inside 1 31 k) (arithmetic (2 ^ k)) (boolean k) (to_boolean k)
 
 -- width μ to modulo q, μ from 1 to 20
-unfoldable pub to_mod_qGadget : ℕ → Gadget
-to_mod_qGadget μ = silent_gadget (inside 1 20 μ) (boolean μ) (arithmetic q) (to_modulus q μ)
+unfoldable pub to_mod_q_gadget : ℕ → Gadget
+to_mod_q_gadget μ = silent_gadget (inside 1 20 μ) (boolean μ) (arithmetic q) (to_modulus q μ)
 
 -- one coefficient, of set 44, 65 or 87
 unfoldable pub sampler : ℕ → Sampler

@@ -5,7 +5,7 @@ use Rattle.std.specs.Prelude.{◌≡◌, [], ◌∷◌, ◌++◌, replicate}
 use Rattle.numbers.specs.Lists.{over}
 use Rattle.gate.specs.Gadget.{tells}
 use Rattle.gate.specs.Sampler.{samples}
-use Rattle.demands.specs.Gadgets.{sampler, polynomial_sampler, widen_gadget, decompose_gadget, refresh_gadget, boolean_gadget, shift_gadget, to_boolean_gadget, to_arithmetic_gadget, to_mod_qGadget}
+use Rattle.demands.specs.Gadgets.{sampler, polynomial_sampler, widen_gadget, decompose_gadget, refresh_gadget, boolean_gadget, shift_gadget, to_boolean_gadget, to_arithmetic_gadget, to_mod_q_gadget}
 
 pub record Worked : Type 0 where
   -- of 12, 3, 6 the first word is skipped: 3 and 6 go into the first two shares and are taken from the third
@@ -26,7 +26,7 @@ pub record Worked : Type 0 where
       (2 ∷ 7 ∷ 2 ∷ 1 ∷ 7 ∷ 4 ∷ 2 ∷ 1 ∷ 0 ∷ 6 ∷ 7 ∷ 2 ∷ 0 ∷ 1 ∷ 0 ∷ 0 ∷ 3 ∷ 3 ∷ 0 ∷ 7 ∷ 5 ∷ []) (0 ∷ 0 ∷ 0 ∷ 0 ∷ [])
       ≡ record { number = 0; others = []; used = 21; out = 7 ∷ 6 ∷ 0 ∷ 7 ∷ [] }
   -- the exclusive or of 3, 1, 0 is 2, and so is the sum mod q. Seven draws are below 2^4, four below 4q, four below 2q, two below q
-  pub made_mod_q : tells (to_mod_qGadget 2) (3 ∷ 1 ∷ 0 ∷ []) (17 ∷ 37 ∷ 19 ∷ 1 ∷ 13 ∷ 11 ∷ 25 ∷ 38 ∷ 41 ∷ 36 ∷ 6 ∷ 2 ∷ 9 ∷ 13 ∷ 28 ∷ 16 ∷ 0 ∷ []) (0 ∷ 0 ∷ 0 ∷ [])
+  pub made_mod_q : tells (to_mod_q_gadget 2) (3 ∷ 1 ∷ 0 ∷ []) (17 ∷ 37 ∷ 19 ∷ 1 ∷ 13 ∷ 11 ∷ 25 ∷ 38 ∷ 41 ∷ 36 ∷ 6 ∷ 2 ∷ 9 ∷ 13 ∷ 28 ∷ 16 ∷ 0 ∷ []) (0 ∷ 0 ∷ 0 ∷ [])
       ≡ record { number = 0; others = []; used = 17; out = 8380017 ∷ 8379948 ∷ 871 ∷ [] }
   -- one word too few, and the output slice stays as it was
   pub short : tells (refresh_gadget 10) (7 ∷ 8 ∷ 9 ∷ []) (12 ∷ 3 ∷ []) (1 ∷ 2 ∷ 3 ∷ []) ≡ record { number = 5; others = []; used = 0; out = 1 ∷ 2 ∷ 3 ∷ [] }

@@ -6,33 +6,25 @@ mod tried;
 
 ghost use Rattle.std.specs.Prelude.{◌≤◌};
 
-// A number, after a space.
-fn number(x: u32) {
-    io::write_all(1, b" ");
-    io::print_decimal(1, x as u64);
-}
+use std::io;
 
 // The set, the share count, how many residues were tried, at how many the parts were wrong, and the checksum.
-fn line(set: u32, n: usize)
+fn line(rt: &impl Print, set: u32, n: usize) -> io::Result<()>
     requires { n ≤ 8 }
 {
     let t = lines::tally(set, n);
-    io::print_decimal(1, set as u64);
-    number(n as u32);
-    number(t.residues);
-    number(t.wrong);
-    number(t.sum);
-    io::write_all(1, b"\n");
+    println!(rt; "{set} {n} {} {} {}", t.residues, t.wrong, t.sum)
 }
 
-fn lines_of(set: u32) {
+fn lines_of(rt: &impl Print, set: u32) -> io::Result<()> {
     for n in 2..9 {
-        line(set, n);
+        line(rt, set, n)?;
     }
+    Ok(())
 }
 
-fn main() {
-    lines_of(44);
-    lines_of(65);
-    lines_of(87);
+fn main(rt: HostRuntime) -> io::Result<()> {
+    lines_of(&rt, 44)?;
+    lines_of(&rt, 65)?;
+    lines_of(&rt, 87)
 }

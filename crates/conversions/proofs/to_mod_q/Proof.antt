@@ -10,7 +10,7 @@ use Rattle.masks.specs.ToModulus.{to_modulus}
 use Rattle.checks.specs.Checks.{inside, first_failing, checks}
 use Rattle.checks.proofs.CheckLaws.{Passed, all_passed, inside_out, checked_width}
 use Rattle.gate.proofs.GadgetLaws.{silent_refused, silent_ran_lem, closed_on_copy, held, held_given}
-use Rattle.demands.specs.Gadgets.{to_mod_qGadget}
+use Rattle.demands.specs.Gadgets.{to_mod_q_gadget}
 use Rattle.conversions.proofs.to_mod_q.Statement.{statement}
 use Rattle.conversions.proofs.to_mod_q.Tie as tie
 
@@ -41,7 +41,7 @@ refused-requires : tie.Need-refused-requires
 refused-requires c κs = search rules
 
 returns : tie.Need-returns
-unfolding to_mod_qGadget
+unfolding to_mod_q_gadget
 returns c = silent_refused _ _ _ _ _ _ _ (number c.before.before) c.before.if1.true (c.refused.ensures _)
 
 copy-in-requires : tie.Need-copy-in-requires
@@ -66,7 +66,7 @@ same_length : tie.Need-same-length
 same_length c = search rules
 
 returns-2 : tie.Need-returns-2
-unfolding to_mod_qGadget
+unfolding to_mod_q_gadget
 returns-2 c =
     let f = c.before.before in
     let l = f.before.before in

@@ -1,8 +1,5 @@
 use borrow.Author.Rules.{rules}
-use Prim.Native.Nat.{◌-◌, ◌*◌, ◌%◌}
-use lib.ListN.{get_or}
-use Rattle.numbers.specs.Modulo.{q}
-use Rattle.numbers.proofs.AlongLaws.{Along, along-start, along_more, along_all}
+use Rattle.numbers.proofs.AlongLaws.{along-start, along_more, along_all}
 use Rattle.sizes.specs.Product.{begun}
 use Rattle.product.proofs.begun.Goals as goal
 

@@ -1,9 +1,7 @@
-use borrow.Author.Rules.{rules}
-use Prim.Native.Nat.{◌-◌, ◌*◌, ◌%◌}
+use Prim.Native.Nat.{◌*◌, ◌%◌}
 use lib.ListN.{get_or}
 use Rattle.numbers.specs.Modulo.{q}
-use Rattle.numbers.proofs.AlongLaws.{Along, along-start, along_more, along_all}
-use Rattle.sizes.specs.Product.{begun}
+use Rattle.numbers.proofs.AlongLaws.{Along}
 use Rattle.product.proofs.begun.Given as goal
 
 abbrev pub invariant-loop-i : goal.invariant-loop-i

@@ -1,6 +1,4 @@
-use borrow.Author.Rules.{rules}
 use mathlib.Core.Path.{◌∙◌}
-use Prim.Native.Nat.{◌-◌}
 use native.Mathlib.Omega.{arith}
 use Rattle.sizes.proofs.ProductSteps.{times_most, less_is}
 use Rattle.product.proofs.cross_less.Goals as goal

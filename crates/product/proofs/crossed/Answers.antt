@@ -1,6 +1,4 @@
-use borrow.Author.Rules.{rules}
 use mathlib.Core.Path.{ap, ◌∙◌}
-use Prim.Native.Nat.{◌-◌}
 use native.Mathlib.Omega.{arith}
 use lib.Seq.{get_or-set_other}
 use Rattle.numbers.specs.Modulo.{q, add_mod}

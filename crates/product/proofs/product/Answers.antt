@@ -1,12 +1,6 @@
-use borrow.Author.Rules.{rules}
 use mathlib.Core.Path.{refl}
-use Prim.Native.Nat.{◌-◌}
-use lib.ListN.{take}
-use Rattle.numbers.specs.Modulo.{q}
-use Rattle.draws.specs.Draws.{run}
 use Rattle.shares.proofs.ArraysLaws.{gave, stopped, whole, cut_off}
-use Rattle.shares.proofs.LoopLaws.{Looping, looping_done, looping_ended, looping_more}
-use Rattle.sizes.specs.Product.{row, product}
+use Rattle.shares.proofs.LoopLaws.{looping_done, looping_ended, looping_more}
 use Rattle.sizes.proofs.ProductSteps.{product-start}
 use borrow.Author.Tests.{not-true, not-false}
 use Rattle.product.proofs.product.Goals as goal

@@ -1,14 +1,8 @@
-use borrow.Author.Rules.{rules}
-use mathlib.Core.Path.{refl}
-use Prim.Native.Nat.{◌-◌}
 use lib.ListN.{take}
-use borrow.Author.Tests.{not-false}
 use Rattle.numbers.specs.Modulo.{q}
 use Rattle.draws.specs.Draws.{run}
-use Rattle.shares.proofs.ArraysLaws.{gave, stopped, whole, cut_off}
-use Rattle.shares.proofs.LoopLaws.{Looping, looping_done, looping_ended, looping_more}
+use Rattle.shares.proofs.LoopLaws.{Looping}
 use Rattle.sizes.specs.Product.{row, product}
-use Rattle.sizes.proofs.ProductSteps.{product-start}
 use Rattle.product.proofs.product.Given as goal
 
 abbrev pub invariant-loop-i : goal.invariant-loop-i

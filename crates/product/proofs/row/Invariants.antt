@@ -1,14 +1,8 @@
-use borrow.Author.Rules.{rules}
-use mathlib.Core.Path.{refl}
-use Prim.Native.Nat.{◌-◌}
-use native.Mathlib.Omega.{arith}
 use lib.ListN.{take}
 use Rattle.numbers.specs.Modulo.{q}
 use Rattle.draws.specs.Draws.{run}
-use Rattle.shares.proofs.ArraysLaws.{whole, cut_off}
-use Rattle.shares.proofs.LoopLaws.{looping_done}
 use Rattle.sizes.specs.Product.{row}
-use Rattle.sizes.proofs.ProductSteps.{Crossing, crossing_start, crossing_ended, crossing_draw, crossing_more}
+use Rattle.sizes.proofs.ProductSteps.{Crossing}
 use Rattle.product.proofs.row.Given as goal
 
 abbrev pub invariant-loop-j : goal.invariant-loop-j

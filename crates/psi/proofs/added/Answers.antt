@@ -1,5 +1,5 @@
-use Rattle.std.proofs.Common.{◌-◌, ◌^◌, pow_pos, rules}
-use Rattle.rules.proofs.ListLaws.{Adding, adding_start, adding_more, adding_all}
+use Rattle.std.proofs.Common.{pow_pos, rules}
+use Rattle.rules.proofs.ListLaws.{adding_start, adding_more, adding_all}
 use Rattle.psi.proofs.added.Goals as goal
 
 pub loop-i-init : goal.loop-i-init

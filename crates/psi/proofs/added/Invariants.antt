@@ -1,5 +1,5 @@
-use Rattle.std.proofs.Common.{◌-◌, ◌^◌, pow_pos, rules}
-use Rattle.rules.proofs.ListLaws.{Adding, adding_start, adding_more, adding_all}
+use Rattle.std.proofs.Common.{◌^◌}
+use Rattle.rules.proofs.ListLaws.{Adding}
 use Rattle.psi.proofs.added.Given as goal
 
 abbrev pub invariant-loop-i : goal.invariant-loop-i

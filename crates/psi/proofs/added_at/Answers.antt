@@ -1,4 +1,4 @@
-use Rattle.std.proofs.Common.{sym, arith, rules}
+use Rattle.std.proofs.Common.{sym, arith}
 use Rattle.psi.proofs.added_at.Goals as goal
 
 pub add_mod-requires : goal.add_mod-requires

@@ -1,5 +1,5 @@
-use Rattle.std.proofs.Common.{◌≡◌, ◌-◌, length, get_or, drop, sym, ap, ◌∙◌, add_comm, arith, length-drop, get_or-drop, rules}
-use Rattle.shares.proofs.ArraysLaws.{Copying, copying_start, copying_more, copying_all}
+use Rattle.std.proofs.Common.{◌≡◌, length, get_or, drop, sym, ap, ◌∙◌, add_comm, arith, length-drop, get_or-drop, rules}
+use Rattle.shares.proofs.ArraysLaws.{copying_start, copying_more, copying_all}
 use Rattle.psi.proofs.u_of.Goals as goal
 
 pub loop-i-init : goal.loop-i-init

@@ -1,5 +1,5 @@
-use Rattle.std.proofs.Common.{◌≡◌, ◌-◌, length, get_or, drop, sym, ap, ◌∙◌, add_comm, arith, length-drop, get_or-drop, rules}
-use Rattle.shares.proofs.ArraysLaws.{Copying, copying_start, copying_more, copying_all}
+use Rattle.std.proofs.Common.{◌≡◌, length, drop}
+use Rattle.shares.proofs.ArraysLaws.{Copying}
 use Rattle.psi.proofs.u_of.Given as goal
 
 abbrev pub invariant-loop-i : goal.invariant-loop-i

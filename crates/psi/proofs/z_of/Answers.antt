@@ -1,7 +1,7 @@
-use Rattle.std.proofs.Common.{◌-◌, ◌∙◌, rules}
-use Rattle.numbers.proofs.AlongLaws.{Along, along-start, along_more, along_all}
+use Rattle.std.proofs.Common.{◌∙◌, rules}
+use Rattle.numbers.proofs.AlongLaws.{along-start, along_more, along_all}
 use Rattle.numbers.specs.Modulo.{xor}
-use Rattle.rules.specs.Psi.{psi, psis}
+use Rattle.rules.specs.Psi.{psis}
 use Rattle.rules.proofs.ListLaws.{z_odd, z_even}
 use Rattle.psi.proofs.z_of.Goals as goal
 

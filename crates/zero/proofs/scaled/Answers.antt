@@ -1,7 +1,5 @@
 use borrow.Author.Rules.{rules}
-use Prim.Native.Nat.{◌-◌, ◌*◌, ◌%◌}
-use Rattle.numbers.specs.Modulo.{q}
-use Rattle.numbers.proofs.AlongLaws.{Along, along-start, along_more, along_all}
+use Rattle.numbers.proofs.AlongLaws.{along-start, along_more, along_all}
 use Rattle.sizes.specs.ZeroTest.{scaled}
 use Rattle.zero.proofs.scaled.Goals as goal
 

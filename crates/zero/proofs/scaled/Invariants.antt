@@ -1,8 +1,6 @@
-use borrow.Author.Rules.{rules}
-use Prim.Native.Nat.{◌-◌, ◌*◌, ◌%◌}
+use Prim.Native.Nat.{◌*◌, ◌%◌}
 use Rattle.numbers.specs.Modulo.{q}
-use Rattle.numbers.proofs.AlongLaws.{Along, along-start, along_more, along_all}
-use Rattle.sizes.specs.ZeroTest.{scaled}
+use Rattle.numbers.proofs.AlongLaws.{Along}
 use Rattle.zero.proofs.scaled.Given as goal
 
 abbrev pub invariant-loop-i : goal.invariant-loop-i

@@ -1,13 +1,7 @@
-use borrow.Author.Rules.{rules}
 use mathlib.Core.Path.{refl}
-use Prim.Native.Nat.{◌-◌}
 use native.Mathlib.Omega.{arith}
-use lib.ListN.{take}
-use Rattle.numbers.specs.Modulo.{q}
-use Rattle.draws.specs.Draws.{run}
 use Rattle.shares.proofs.ArraysLaws.{gave, stopped, whole, cut_off}
-use Rattle.shares.proofs.LoopLaws.{Looping, looping_done}
-use Rattle.sizes.specs.ZeroTest.{scale_turn, zero_test}
+use Rattle.shares.proofs.LoopLaws.{looping_done}
 use Rattle.sizes.proofs.ZeroSteps.{zero_start, zero_ended, scalar_below, zero_held, zero_stopped, zero_more}
 use borrow.Author.Tests.{not-true, not-false}
 use Rattle.zero.proofs.zero_test.Goals as goal
