@@ -1,6 +1,6 @@
 /*
- * Xechanopu: masked gadgets for ML-DSA (FIPS 204). Link libcapi.a, which `rt staticlib capi` makes for
- * x86-64. It needs memcpy and memset, and nothing else.
+ * Xechanopu: masked gadgets for ML-DSA (FIPS 204). Link libcapi.a, which `rt lib` in crates/capi makes
+ * for x86-64. It needs memcpy and memset, and nothing else.
  *
  * SHARINGS
  *

@@ -3,12 +3,12 @@
 use std::path::Path;
 
 fn main() {
-    let folder = Path::new(env!("CARGO_MANIFEST_DIR")).join("../../target/staticlib");
+    let folder = Path::new(env!("CARGO_MANIFEST_DIR")).join("../../crates/capi/out");
     let library = folder.join("libcapi.a");
     println!("cargo:rerun-if-changed={}", library.display());
     if !library.exists() {
         eprintln!(
-            "target/staticlib/libcapi.a is missing: make it with `rt staticlib capi`, then build the bench again."
+            "crates/capi/out/libcapi.a is missing: make it with `rt lib` in crates/capi, then build the bench again."
         );
         std::process::exit(1);
     }

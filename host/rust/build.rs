@@ -1,14 +1,14 @@
-//! Links the archive that `rt staticlib capi` makes at the root of the repository.
+//! Links the archive that `rt lib` makes in crates/capi.
 
 use std::path::Path;
 
 fn main() {
-    let folder = Path::new(env!("CARGO_MANIFEST_DIR")).join("../../target/staticlib");
+    let folder = Path::new(env!("CARGO_MANIFEST_DIR")).join("../../crates/capi/out");
     let archive = folder.join("libcapi.a");
     println!("cargo:rerun-if-changed={}", archive.display());
     if !archive.exists() {
         eprintln!(
-            "target/staticlib/libcapi.a is missing: run `rt staticlib capi` first, at the root of the repository"
+            "crates/capi/out/libcapi.a is missing: run `rt lib` in crates/capi first"
         );
         std::process::exit(1);
     }

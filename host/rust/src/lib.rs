@@ -1,5 +1,5 @@
 //! Masked gadgets for ML-DSA (FIPS 204), proved. This crate is a safe face over the library's C one; the library is written and
-//! proved in Rattle, and `rt staticlib capi` makes the archive that is linked.
+//! proved in Rattle, and `rt lib` in crates/capi makes the archive that is linked.
 //!
 //! **Sharings.** A secret is held in n shares, 32-bit words, n from 2 to 8. An arithmetic sharing modulo M has words below M, and
 //! its value is their sum modulo M. A Boolean sharing of width k has words below 2^k, and its value is their exclusive or. A

@@ -1,9 +1,6 @@
-use borrow.Author.Rules.{rules}
-use Prim.Native.Nat.{◌-◌, ◌*◌, ◌/◌}
 use native.Mathlib.Omega.{arith}
-use Rattle.numbers.specs.Modulo.{q}
 use Rattle.numbers.proofs.WordsLaws.{words_at}
-use Rattle.numbers.proofs.AlongLaws.{Along, along-start, along_read, along_more, along_all}
+use Rattle.numbers.proofs.AlongLaws.{along-start, along_read, along_more, along_all}
 use Rattle.carries.proofs.floors_by_q.Goals as goal
 
 pub loop-i-init : goal.loop-i-init
