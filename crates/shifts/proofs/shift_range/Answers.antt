@@ -2,7 +2,6 @@ use borrow.Author.Rules.{rules}
 use mathlib.Core.Path.{◌≡◌, sym, ◌∙◌}
 use mathlib.Core.Bool.{true, false}
 use Prim.Native.Nat.{◌≤◌}
-use lib.Pow.{pow_pos}
 use Rattle.checks.specs.Checks.{inside}
 use Rattle.checks.proofs.CheckLaws.{inside_out}
 use Rattle.demands.proofs.RangeLaws.{shift_range-word}
