@@ -1,14 +1,8 @@
-use borrow.Author.Rules.{rules}
-use mathlib.Core.Path.{◌≡◌, refl, ap, ◌∙◌}
-use Prim.Native.Nat.{◌-◌, ◌^◌}
+use Prim.Native.Nat.{◌^◌}
 use lib.ListN.{replicate}
-use lib.Pow.{pow_pos, pow_mono}
-use Rattle.tape.specs.Tape.{draw_at}
-use Rattle.tape.specs.Answers.{draw_stands_for}
 use Rattle.draws.specs.Draws.{run}
 use Rattle.draws.specs.Plan.{draw_all}
-use Rattle.shares.proofs.ArraysLaws.{whole, cut_off}
-use Rattle.masks.proofs.DrawingLaws.{Drawing, drawing_start, drawing_all, drawing_ended, drawing_more}
+use Rattle.masks.proofs.DrawingLaws.{Drawing}
 use Rattle.sample.proofs.draw_shares.Given as goal
 
 abbrev pub invariant-loop-i : goal.invariant-loop-i

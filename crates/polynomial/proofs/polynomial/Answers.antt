@@ -1,0 +1,47 @@
+use borrow.Author.Rules.{rules}
+use mathlib.Core.Path.{◌∙◌}
+use Prim.Native.Nat.{◌+◌, ◌-◌, ◌*◌, ◌≤◌, ◌<◌}
+use native.Mathlib.Omega.{arith}
+use lib.ListN.{length}
+use Rattle.tape.specs.Tape.{start}
+use Rattle.draws.specs.Draws.{run}
+use Rattle.masks.specs.Polynomial.{polynomial}
+use Rattle.polynomial.specs.Answers.{written_stands_for}
+use Rattle.masks.proofs.RowLaws.{lent_length, Filling, filling_start, filling_all, filling_within, filling_ended, filling_more}
+use Rattle.polynomial.proofs.WrittenLaws.{wrote_none, wrote}
+use Rattle.polynomial.proofs.polynomial.Goals as goal
+use Rattle.polynomial.proofs.polynomial.Goals.{In-loop-c}
+
+few : (c : In-loop-c) → c.loop-c.c < 256
+few c = omega (arith, c.loop-c-test.true)
+
+-- the row lies within the slice
+within : (c : In-loop-c) →
+    let n = c.args.n in
+    c.loop-c.c * n + n ≤ length c.loop-c.out
+within c = filling_within c.loop-c.invariant (few c)
+
+pub loop-c-init : goal.loop-c-init
+loop-c-init c = rw c.start-cursor.ensures (filling_start _ _ _ _ c.requires.3)
+
+pub overflow_mul-place : goal.overflow_mul-place
+overflow_mul-place c = omega (arith, within c)
+
+pub overflow_add-place : goal.overflow_add-place
+overflow_add-place c = omega (arith, within c)
+
+pub offset_bounds-out-place : goal.offset_bounds-out-place
+offset_bounds-out-place c = omega (arith, within c, c.well-formed)
+
+pub returns-in_default : goal.returns-in_default
+unfolding written_stands_for
+returns-in_default c =
+    filling_ended c.loop-c.invariant (few (goal.at.returns-in_default c).In-loop-c) (wrote_none _ _ c.write_row.ensures c.in_default.is)
+
+pub loop-c-preserved : goal.loop-c-preserved
+loop-c-preserved c =
+    filling_more c.loop-c.invariant (few (goal.at.loop-c-preserved c).In-loop-c) (wrote _ _ c.write_row.ensures c.in-Filled.is) (c.out-1.given.0 ∙ lent_length _ _ _ (within (goal.at.loop-c-preserved c).In-loop-c))
+
+pub returns : goal.returns
+unfolding written_stands_for
+returns c = filling_all c.loop-c.invariant c.loop-c-test.false
