@@ -1,11 +1,9 @@
-use borrow.Author.Rules.{rules}
 use mathlib.Core.Path.{◌≡◌, refl, sym, ap, ◌∙◌}
 use Prim.Native.Nat.{◌+◌, ◌*◌, ◌^◌, ◌≤◌}
 use native.Mathlib.Omega.{arith}
 use lib.Pow.{pow_pos}
 use lib.ListN.{length, take}
 use Rattle.numbers.specs.Modulo.{q}
-use Rattle.numbers.specs.Bits.{alpha}
 use Rattle.params.proofs.RoomLaws.{alpha_most, rho_most, wraps_least, reach_below, wraps_room}
 use Rattle.draws.specs.Draws.{run}
 use Rattle.shares.specs.Arrays.{Held, Gave}

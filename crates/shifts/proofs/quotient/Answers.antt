@@ -1,0 +1,8 @@
+use borrow.Author.Rules.{rules}
+use mathlib.Core.Path.{ap}
+use Prim.Native.Nat.{ℕ, ◌/◌}
+use lib.Pow.{pow_pos}
+use Rattle.shifts.proofs.quotient.Goals as goal
+
+pub returns : goal.returns
+returns c = ap (λ (s : ℕ). c.args.modulus / s) c.power.ensures
