@@ -31,7 +31,7 @@ pub overflow_add-place : goal.overflow_add-place
 overflow_add-place c = omega (arith, within c)
 
 pub offset_bounds-out-place : goal.offset_bounds-out-place
-offset_bounds-out-place c = omega (arith, within c, c.well-formed)
+offset_bounds-out-place c = omega (arith, within c, c.well_formed)
 
 pub returns-in_default : goal.returns-in_default
 unfolding written_stands_for
