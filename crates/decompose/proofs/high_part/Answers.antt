@@ -1,7 +1,3 @@
-<<<<<<< HEAD
-use borrow.Author.Rules.{rules}
-=======
->>>>>>> c448b76c64e6bca89141ec0f0bc926a48e47f150
 use mathlib.Core.Path.{ap, ◌∙◌}
 use Rattle.tape.specs.Tape.{ran}
 use Rattle.shares.proofs.ArraysLaws.{held_below, gave, stopped}

@@ -48,12 +48,7 @@ carries_by_q-s-requires c = let (l, h) = c.requires in
     (omega (arith, alpha_most _ h.most), l.parts_least, parts_room l _ h.most, count_room l _, floors_room _ _, offset (goal.at.carries_by_q-s-requires c).After-alpha-t)
 
 pub close-requires : goal.close-requires
-<<<<<<< HEAD
-close-requires c =
-    held_below c.requires.1 c.requires.0.parts_least (c.carries_by_q-s.ensures.below t)
-=======
 close-requires c t = held_below c.requires.1 c.requires.0.parts_least (c.carries_by_q-s.ensures.below t)
->>>>>>> c448b76c64e6bca89141ec0f0bc926a48e47f150
 
 pub returns : goal.returns
 returns c =

@@ -2,18 +2,10 @@ use borrow.Author.Rules.{rules}
 use mathlib.Core.Path.{◌≡◌, sym, ◌∙◌}
 use mathlib.Core.Bool.{true, false}
 use Prim.Native.Nat.{◌≤◌}
-<<<<<<< HEAD
 use Rattle.checks.specs.Checks.{inside}
 use Rattle.checks.proofs.CheckLaws.{inside_out}
 use Rattle.demands.proofs.RangeLaws.{shift_range-word}
 use borrow.Author.Tests.{eq-eqb, ne_eqb}
-=======
-use lib.Pow.{pow_pos}
-use Rattle.checks.specs.Checks.{inside}
-use Rattle.checks.proofs.CheckLaws.{inside_out}
-use Rattle.demands.proofs.RangeLaws.{shift_range-word}
-use borrow.Author.Tests.{not-true, eq-eqb, ne_eqb}
->>>>>>> c448b76c64e6bca89141ec0f0bc926a48e47f150
 use Rattle.shifts.proofs.shift_range.Goals as goal
 use Rattle.shifts.proofs.shift_range.Goals.{After-inside, Else-not-inside}
 
@@ -24,12 +16,8 @@ in_range : (c : Else-not-inside) → inside 1 31 c.args.t ≡ true
 in_range c = sym c.inside.ensures ∙ c.if-not-inside.false
 
 pub returns-then-not-inside : goal.returns-then-not-inside
-<<<<<<< HEAD
 returns-then-not-inside c =
     let e : inside 1 31 c.args.t ≡ false = sym c.inside.ensures ∙ c.if-not-inside.true in
-=======
-returns-then-not-inside c = let e : inside 1 31 c.args.t ≡ false = sym c.inside.ensures ∙ not-true c.inside.result c.if-not-inside.true in
->>>>>>> c448b76c64e6bca89141ec0f0bc926a48e47f150
     rw (shift_range-word _ _ (word (goal.at.returns-then-not-inside c).After-inside), e)
 
 pub power-requires : goal.power-requires

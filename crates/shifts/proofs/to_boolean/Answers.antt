@@ -1,7 +1,3 @@
-<<<<<<< HEAD
-=======
-use borrow.Author.Rules.{rules}
->>>>>>> c448b76c64e6bca89141ec0f0bc926a48e47f150
 use mathlib.Core.Path.{◌≡◌, sym, ◌∙◌}
 use Prim.Native.Nat.{◌^◌}
 use native.Mathlib.Omega.{arith}
@@ -49,8 +45,4 @@ finish-requires c = let p = good (goal.at.finish-requires c).Else-number-ne0 in 
 pub returns : goal.returns
 unfolding to_boolean_gadget
 returns c = silent_ran_lem _ (arithmetic _) (boolean _) _ _ _ _ (sym (number (goal.at.returns c).After-first_failing-number) ∙ c.if-number-ne0.false) c.finish.ensures
-<<<<<<< HEAD
     (closed_on_copy (to_boolean _) (boolean _) _ c.copy_in.ensures (good (goal.at.returns c).Else-number-ne0).ready.fits c.start.ensures c.to_boolean-s.ensures c.close_boolean.ensures)
-=======
-    (closed_on_copy (to_boolean _) (boolean _) _ c.copy_in.ensures (good (goal.at.returns c).Else-number-ne0).ready.ranges c.start.ensures c.to_boolean-s.ensures c.close_boolean.ensures)
->>>>>>> c448b76c64e6bca89141ec0f0bc926a48e47f150

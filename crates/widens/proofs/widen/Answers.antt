@@ -1,7 +1,3 @@
-<<<<<<< HEAD
-use borrow.Author.Rules.{rules}
-=======
->>>>>>> c448b76c64e6bca89141ec0f0bc926a48e47f150
 use mathlib.Core.Path.{◌≡◌, refl, sym, ap, ◌∙◌}
 use mathlib.Core.Bool.{true}
 use lib.ListN.{length}
@@ -19,11 +15,7 @@ use Rattle.gate.proofs.GadgetLaws.{silent_refused, silent_ran_lem}
 use Rattle.sizes.specs.Widening.{widened, widen}
 use Rattle.demands.specs.Gadgets.{kind_range, widen_gadget}
 use Rattle.widens.proofs.widen.Goals as goal
-<<<<<<< HEAD
-use Rattle.widens.proofs.widen.Goals.{After-first_failing-number, In-Set-2}
-=======
 use Rattle.widens.proofs.widen.Goals.{After-first_failing-number, In-Set}
->>>>>>> c448b76c64e6bca89141ec0f0bc926a48e47f150
 
 number : (c : After-first_failing-number) →
     let a = c.args in
@@ -40,25 +32,15 @@ set_known : (c : After-first_failing-number) → c.first_failing-number.result �
 unfolding kind_range
 set_known c e = both_left _ _ (passed c e).range
 
-<<<<<<< HEAD
-admitted : (c : In-Set-2) →
-    Good c.first_failing-number.result c.args.set c.in-Set.p
-admitted c = good _ _ (set_known (goal.at.In-Set-2 c).After-first_failing-number) _ c.admit.ensures c.in-Set.is
-=======
 admitted : (c : In-Set) →
     Good c.first_failing-number.result c.args.set c.in-Set.p
 admitted c = good _ _ (set_known (goal.at.In-Set c).After-first_failing-number) _ c.admit.ensures c.in-Set.is
->>>>>>> c448b76c64e6bca89141ec0f0bc926a48e47f150
 
 pub admit-requires : goal.admit-requires
 admit-requires c = λ e. set_known c e
 
 pub widen_by-requires : goal.widen_by-requires
-<<<<<<< HEAD
-widen_by-requires c = let g = admitted (goal.at.widen_by-requires c).In-Set-2 in
-=======
 widen_by-requires c = let g = admitted (goal.at.widen_by-requires c).In-Set in
->>>>>>> c448b76c64e6bca89141ec0f0bc926a48e47f150
     (rw c.of_kind.ensures (kind_laws g.laws _), (passed (goal.at.widen_by-requires c).After-first_failing-number (sym g.passes)).ready)
 
 pub returns-in-Refused : goal.returns-in-Refused
@@ -69,12 +51,6 @@ returns-in-Refused c = let (e, h) = not_admitted _ _ (set_known (goal.at.returns
 pub returns-in-Set : goal.returns-in-Set
 unfolding widen_gadget
 returns-in-Set c = let a = c.args in
-<<<<<<< HEAD
-    let g = admitted (goal.at.returns-in-Set c).In-Set-2 in
-    silent_ran_lem _ _ _ _ _ _ _ (sym (g.passes ∙ number (goal.at.returns-in-Set c).After-first_failing-number)) c.widen_by.ensures
-    (ap (λ k. run (bind (widen k a.shares.now) (refresh (widened k))) a.tape.now start) (c.of_kind.ensures ∙ ap (λ ((goal.at.returns-in-Set c).In-Set-2 : Params). of_kind (goal.at.returns-in-Set c).In-Set-2 a.kind) g.constants))
-=======
     let g = admitted (goal.at.returns-in-Set c).In-Set in
     silent_ran_lem _ _ _ _ _ _ _ (sym (g.passes ∙ number (goal.at.returns-in-Set c).After-first_failing-number)) c.widen_by.ensures
     (ap (λ k. run (bind (widen k a.shares.now) (refresh (widened k))) a.tape.now start) (c.of_kind.ensures ∙ ap (λ (p : Params). of_kind p a.kind) g.constants))
->>>>>>> c448b76c64e6bca89141ec0f0bc926a48e47f150
