@@ -1,5 +1,7 @@
 // The values that some rounds aim at, since a step is likely to go wrong there. Bounds and reaches are written out, so that they do
 // not hang on the constants that the gadgets go by.
+#![tactic(auto)]
+
 ghost use Rattle.std.specs.Prelude.{◌<◌};
 
 use trials::gamma2;

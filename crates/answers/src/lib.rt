@@ -1,4 +1,6 @@
 // What Decompose and the verdict answer on shares of a residue.
+#![tactic(auto)]
+
 mod in_parts;
 mod verdicts;
 

@@ -1,4 +1,6 @@
 // Boolean refresh of width k, with the last share in a local as in the refresh mod m; and that of what steps gave.
+#![tactic(auto)]
+
 ghost use Rattle.std.specs.Prelude.{◌≡◌, true, ◌^◌, ◌≤◌, take};
 ghost use Rattle.draws.specs.Draws.{next, run};
 ghost use Rattle.shares.specs.Sharing.{boolean};

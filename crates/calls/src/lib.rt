@@ -1,4 +1,6 @@
 // The calls of the public gadgets by their numbers, and what is kept of their answers.
+#![tactic(auto)]
+
 mod far;
 mod notes;
 

@@ -1,4 +1,6 @@
 // The library's face for C: include/xechanopu.h declares what is exported here.
+#![tactic(auto)]
+
 ghost use Rattle.std.specs.Prelude.{◌≡◌};
 ghost use Rattle.gate.specs.Told.{stands_for, parts_stand_for, judged_stands_for};
 ghost use Rattle.gate.specs.Gadget.{tells};

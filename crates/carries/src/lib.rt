@@ -1,5 +1,7 @@
 // The carries of shares, which modulus switching, widening and Decompose make alike: floors, n - 1 added to the first, and a shift. The map goes over all
 // eight words.
+#![tactic(auto)]
+
 ghost use Rattle.std.specs.Prelude.{◌≡◌, ◌*◌, ◌/◌, ◌^◌, ◌≤◌, ◌<◌, take};
 ghost use Rattle.numbers.specs.Modulo.{q};
 ghost use Rattle.numbers.specs.Lists.{Words, along};

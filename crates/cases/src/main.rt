@@ -1,5 +1,7 @@
 // Runs the public gadgets on the hand cases and on many pseudo-random calls, and prints for each gadget and share count how often
 // each number was answered and a checksum of everything answered. docs/CASES.md says which calls are made.
+#![tactic(auto)]
+
 use calls::Tally;
 use pairs::Pair;
 use params::Params;

@@ -1,4 +1,6 @@
 // The checks before a gadget runs, in their order, and the set that they admit.
+#![tactic(auto)]
+
 ghost use Rattle.std.specs.Prelude.{◌≡◌, true, [], ◌*◌, ◌%◌, ◌^◌, ◌≤◌};
 ghost use Rattle.params.specs.Sets.{known};
 ghost use Rattle.checks.specs.Checks.{inside, all_below, first_failing, checks_of, checks};

@@ -1,4 +1,6 @@
 // Boolean to arithmetic: mod 2^k, and mod q.
+#![tactic(auto)]
+
 ghost use Rattle.std.specs.Prelude.{◌≡◌};
 ghost use Rattle.gate.specs.Told.{stands_for};
 ghost use Rattle.gate.specs.Gadget.{tells};

@@ -1,4 +1,6 @@
 // Copies between a caller's slices and arrays of shares, and a slice cleared.
+#![tactic(auto)]
+
 ghost use Rattle.std.specs.Prelude.{◌≡◌, ◌≤◌, length, get_or, set, take, replicate};
 ghost use Rattle.shares.specs.Arrays.{Copied};
 

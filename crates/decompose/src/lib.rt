@@ -1,4 +1,6 @@
 // Decompose of shares modulo q: the high part is opened, the low part stays shared.
+#![tactic(auto)]
+
 ghost use Rattle.std.specs.Prelude.{◌≡◌, ◌<◌, take};
 ghost use Rattle.numbers.specs.Modulo.{q};
 ghost use Rattle.numbers.specs.Lists.{Words};

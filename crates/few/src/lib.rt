@@ -1,4 +1,6 @@
 // The rule of Boolean to arithmetic on few shares, without arrays: of all calls of the rule half have three shares, where it ends, and half of the others four, right above these.
+#![tactic(auto)]
+
 ghost use Rattle.std.specs.Prelude.{[], ◌∷◌, ◌^◌, ◌≤◌, take};
 ghost use Rattle.draws.specs.Draws.{run};
 ghost use Rattle.shares.specs.Arrays.{Held, Gave};

@@ -1,4 +1,6 @@
 // A number added to the first share of an array, or taken from it.
+#![tactic(auto)]
+
 ghost use Rattle.std.specs.Prelude.{◌≡◌, ◌<◌};
 ghost use Rattle.numbers.specs.Lists.{Words};
 ghost use Rattle.shares.specs.Sharing.{arithmetic};

@@ -1,4 +1,6 @@
 // What a caller gets back: the answers, and the output slice filled.
+#![tactic(auto)]
+
 ghost use Rattle.std.specs.Prelude.{◌≡◌, List, ℕ, ◌≤◌, length};
 ghost use Rattle.shares.specs.Arrays.{shared};
 ghost use Rattle.gate.specs.Told.{refusal, silent_ran, ran_told, stands_for};

@@ -1,4 +1,6 @@
 // One case of the self test: a call of a public gadget, and whether it told what is wanted; of Boolean to arithmetic its steps, and what they gave.
+#![tactic(auto)]
+
 ghost use Rattle.std.specs.Prelude.{◌≡◌, [], ◌∷◌, ◌^◌, ◌≤◌, take};
 ghost use Rattle.numbers.specs.Modulo.{q, add_mod};
 ghost use Rattle.tape.specs.Tape.{start};

@@ -1,4 +1,6 @@
 // What the rounds of `cases` call with: the shares, and the room for the output.
+#![tactic(auto)]
+
 use aims::value;
 use pairs::{Pair, bound};
 use trials::fill;

@@ -1,4 +1,6 @@
 // The public verdict on the shares of one coefficient, by a parameter set and a kind: what is opened says, of a number within the reach, whether it is small enough.
+#![tactic(auto)]
+
 ghost use Rattle.std.specs.Prelude.{◌≡◌, [], length};
 ghost use Rattle.numbers.specs.Modulo.{q};
 ghost use Rattle.params.specs.Laws.{KindLaws};

@@ -1,4 +1,6 @@
 // The refresh that closes shares from whose first a number is taken.
+#![tactic(auto)]
+
 ghost use Rattle.std.specs.Prelude.{◌≡◌, true, ◌<◌};
 ghost use Rattle.draws.specs.Draws.{next, run};
 ghost use Rattle.shares.specs.Sharing.{arithmetic};

@@ -1,4 +1,6 @@
 // The opening of shares mod m: their sum. A refresh comes before it, so that the shares that are opened tell no more than the sum.
+#![tactic(auto)]
+
 ghost use Rattle.std.specs.Prelude.{◌≡◌, take};
 ghost use Rattle.shares.specs.Sharing.{arithmetic, value};
 ghost use Rattle.shares.specs.Arrays.{Held};

@@ -1,4 +1,6 @@
 // The parameters that a round calls with, right and wrong, and what the shares are below.
+#![tactic(auto)]
+
 mod sets;
 
 pub use sets::known;

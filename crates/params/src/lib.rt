@@ -1,4 +1,6 @@
 // The parameter sets of ML-DSA: in the library's code the constants of each stand here alone.
+#![tactic(auto)]
+
 ghost use Rattle.std.specs.Prelude.{◌≡◌};
 ghost use Rattle.params.specs.Sets.{bounds, set_of, known, of_kind};
 ghost use Rattle.params.specs.Answers.{choice_stands_for};

@@ -1,4 +1,6 @@
 // Sampling of a mask in shares: the 256 coefficients of a polynomial, each in its row of the caller's slice.
+#![tactic(auto)]
+
 ghost use Rattle.std.specs.Prelude.{◌≡◌, ◌*◌, ◌≤◌, length};
 ghost use Rattle.tape.specs.Tape.{start};
 ghost use Rattle.params.specs.Laws.{Laws};

@@ -1,4 +1,6 @@
 // The product of two sharings modulo q. Each pair of shares has a draw of its own, added to one and taken from the other.
+#![tactic(auto)]
+
 ghost use Rattle.std.specs.Prelude.{◌≡◌, ◌+◌, ◌*◌, ◌<◌, take};
 ghost use Rattle.numbers.specs.Modulo.{q, sub_mod};
 ghost use Rattle.numbers.specs.Lists.{Words};

@@ -1,4 +1,6 @@
 // The lists that the rule of Boolean to arithmetic makes: U, Z by Ψ, and their results added. The maps go over all words of an array, which are all below 2^k.
+#![tactic(auto)]
+
 ghost use Rattle.std.specs.Prelude.{◌≡◌, ◌+◌, ◌-◌, ◌^◌, ◌<◌, ◌≤◌, take, drop, slice_index};
 ghost use Rattle.numbers.specs.Modulo.{add_mod};
 ghost use Rattle.numbers.specs.Lists.{Words};

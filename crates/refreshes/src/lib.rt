@@ -1,4 +1,6 @@
 // Both refreshes: the closing refresh alone.
+#![tactic(auto)]
+
 ghost use Rattle.std.specs.Prelude.{◌≡◌};
 ghost use Rattle.gate.specs.Told.{stands_for};
 ghost use Rattle.gate.specs.Gadget.{tells};

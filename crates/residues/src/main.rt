@@ -1,5 +1,7 @@
 // Holds Decompose in shares to a plain one: in two shares at every residue, for every set; in more shares at those where the parts change,
 // and at many others. docs/CASES.md says at which.
+#![tactic(auto)]
+
 mod lines;
 mod plain;
 mod tried;

@@ -1,4 +1,6 @@
 // The calls of the public gadgets in rounds, and what is kept of their answers.
+#![tactic(auto)]
+
 mod tapes;
 
 use calls::Tally;

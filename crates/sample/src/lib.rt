@@ -1,4 +1,6 @@
 // Sampling of a mask in shares: one coefficient, up to the pass that closes it.
+#![tactic(auto)]
+
 ghost use Rattle.std.specs.Prelude.{◌^◌, ◌≤◌, replicate};
 ghost use Rattle.numbers.specs.Modulo.{q};
 ghost use Rattle.params.specs.Laws.{Laws};

@@ -1,4 +1,6 @@
 // The public samplers of a mask in shares. The share count n is stated, since there are no shares to count.
+#![tactic(auto)]
+
 ghost use Rattle.std.specs.Prelude.{◌≡◌, ◌*◌, ◌≤◌, length, replicate};
 ghost use Rattle.params.specs.Laws.{Laws};
 ghost use Rattle.tape.specs.Tape.{start};

@@ -1,5 +1,7 @@
 // The self test: the cases by hand of document 01, run through the public gadgets, of Boolean to arithmetic through its steps, so that a device can
 // tell at power-on that its build and its processor keep to them.
+#![tactic(auto)]
+
 mod cases;
 
 ghost use Rattle.std.specs.Prelude.{◌≡◌, eqb};

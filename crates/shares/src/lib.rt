@@ -1,4 +1,6 @@
 // Shares in small arrays by value, n beside them: the refresh mod m, and what closes with it.
+#![tactic(auto)]
+
 mod arithmetic;
 mod closing;
 

@@ -1,4 +1,6 @@
 // The shift by t, and arithmetic to Boolean.
+#![tactic(auto)]
+
 ghost use Rattle.std.specs.Prelude.{◌≡◌, ◌/◌, ◌^◌, ◌≤◌};
 ghost use Rattle.gate.specs.Told.{stands_for};
 ghost use Rattle.gate.specs.Gadget.{tells};

@@ -1,4 +1,6 @@
 // What `cases` prints of single values: names and numbers, Decompose and the verdict on residues in shares, and the verdicts at the bounds.
+#![tactic(auto)]
+
 mod names;
 
 ghost use Rattle.std.specs.Prelude.{◌≤◌};

@@ -1,4 +1,6 @@
 // The tape of random words: its place, and one draw.
+#![tactic(auto)]
+
 ghost use Rattle.std.specs.Prelude.{◌≡◌, ◌%◌, ◌^◌, ◌≤◌};
 ghost use Rattle.numbers.specs.Bits.{bits_of};
 ghost use Rattle.tape.specs.Tape.{start, draw_at};

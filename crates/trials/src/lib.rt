@@ -1,5 +1,7 @@
 // What the programs use: pseudo-random words, the checksum, the sum of shares modulo q, and γ2 of a set. q and γ2 are written out, so that what is
 // tried and what is held right do not hang on the constants that the gadgets go by.
+#![tactic(auto)]
+
 ghost use Rattle.std.specs.Prelude.{◌<◌, ◌≤◌};
 
 // The next word: xorshift with 13, 17 and 5.

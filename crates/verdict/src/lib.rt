@@ -1,5 +1,7 @@
 // The verdict: whether the number in the shares is small enough. Both sides of it are multiplied in shares, and only the product, multiplied by random
 // scalars, is opened.
+#![tactic(auto)]
+
 ghost use Rattle.std.specs.Prelude.{take};
 ghost use Rattle.numbers.specs.Modulo.{q};
 ghost use Rattle.params.specs.Laws.{KindLaws};

@@ -1,4 +1,6 @@
 // Widening: shares of a small number modulo q become shares of the same number modulo 2^rho·q, which the verdict can shift.
+#![tactic(auto)]
+
 ghost use Rattle.std.specs.Prelude.{◌≡◌, ◌*◌, ◌≤◌, take};
 ghost use Rattle.numbers.specs.Modulo.{q};
 ghost use Rattle.numbers.specs.Lists.{Words};

@@ -1,5 +1,7 @@
 // Words below a modulus: sum, difference, negation, the remainder by q and by any modulus, the product mod q, and numbers of bits.
 // Nothing here divides by a variable: some processors take longer for some operands.
+#![tactic(auto)]
+
 ghost use Rattle.std.specs.Prelude.{◌≡◌, ◌*◌, ◌%◌, ◌^◌, ◌≤◌, ◌<◌};
 ghost use Rattle.numbers.specs.Modulo.{q, add_mod, sub_mod, neg_mod};
 ghost use Rattle.numbers.specs.Bits.{bits_of, alpha};

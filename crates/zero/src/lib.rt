@@ -1,4 +1,6 @@
 // The zero test: a value is multiplied by random scalars that are not zero, so that zero stays zero and nothing else becomes it.
+#![tactic(auto)]
+
 ghost use Rattle.std.specs.Prelude.{◌≡◌, take};
 ghost use Rattle.numbers.specs.Modulo.{q};
 ghost use Rattle.draws.specs.Draws.{run};
