@@ -1,4 +1,4 @@
-use Rattle.std.proofs.Common.{◌≡◌, ◌-◌, ◌≤◌, length, arith, length-set, rules}
+use Rattle.std.proofs.Common.{◌-◌, arith, length-set, rules}
 use Rattle.inputs.proofs.reduce.Goals as goal
 
 pub loop-i-preserved : goal.loop-i-preserved
