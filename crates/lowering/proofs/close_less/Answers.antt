@@ -28,8 +28,8 @@ read : (c : Joined-i-eq0) →
 read c =
     let h = held (goal.at.Joined-i-eq0 c).Else-not-s in
     elim c.if-i-eq0.branch [
-    | then-i-eq0 w ↦ w.x-is ∙ lowered (goal.at.Joined-i-eq0 c).After-sub_mod-first ∙ sym (less_first _ _ _ _ h _ (omega (arith, w.if-i-eq0.true)))
-    | else-i-eq0 w ↦ w.x-is ∙ sym (less_other _ _ _ _ h _ (omega (arith, w.if-i-eq0.false)))
+      | then-i-eq0 w ↦ w.x-is ∙ lowered (goal.at.Joined-i-eq0 c).After-sub_mod-first ∙ sym (less_first _ _ _ _ h _ (omega (arith, w.if-i-eq0.true)))
+      | else-i-eq0 w ↦ w.x-is ∙ sym (less_other _ _ _ _ h _ (omega (arith, w.if-i-eq0.false)))
     ]
 
 pub returns-then-not-s : goal.returns-then-not-s
