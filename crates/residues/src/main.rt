@@ -10,12 +10,22 @@ ghost use Rattle.std.specs.Prelude.{◌≤◌};
 
 use std::io;
 
+// A number, after a space.
+fn number(rt: &impl Print, x: u32) -> io::Result<()> {
+    print!(rt; " {x}")
+}
+
 // The set, the share count, how many residues were tried, at how many the parts were wrong, and the checksum.
 fn line(rt: &impl Print, set: u32, n: usize) -> io::Result<()>
     requires { n ≤ 8 }
 {
     let t = lines::tally(set, n);
-    println!(rt; "{set} {n} {} {} {}", t.residues, t.wrong, t.sum)
+    print!(rt; "{set}")?;
+    number(rt, n as u32)?;
+    number(rt, t.residues)?;
+    number(rt, t.wrong)?;
+    number(rt, t.sum)?;
+    println!(rt; "")
 }
 
 fn lines_of(rt: &impl Print, set: u32) -> io::Result<()> {
