@@ -1,6 +1,6 @@
 -- Both samplers meet demands 1 and 2, their answers are unique, and how many draws they make.
 use mathlib.Core.Path.{◌≡◌, refl, ap₂, ◌∙◌}
-use mathlib.Core.List.{List, [], ◌++◌}
+use mathlib.Core.List.{List}
 use Prim.Native.Nat.{ℕ, ◌+◌, ◌-◌, ◌*◌, ◌^◌, ◌≤◌, ◌<◌}
 use native.Mathlib.Omega.{arith}
 use lib.ListN.{length, length-append, length-replicate}

@@ -1,4 +1,3 @@
-use borrow.Author.Rules.{rules}
 use Rattle.shares.proofs.ArraysLaws.{next_whole, next_none, given_as, cut_off}
 use borrow.Author.Tests.{not-true, not-false}
 use Rattle.boolean.proofs.close_boolean.Goals as goal

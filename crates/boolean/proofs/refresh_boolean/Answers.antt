@@ -1,15 +1,11 @@
-use borrow.Author.Rules.{rules}
 use mathlib.Core.Path.{◌≡◌, refl, ap, ◌∙◌}
 use Prim.Native.Nat.{◌-◌, ◌^◌}
-use lib.ListN.{take}
 use Rattle.numbers.specs.Modulo.{xor}
 use Rattle.tape.specs.Tape.{draw_at}
 use Rattle.tape.specs.Answers.{draw_stands_for}
-use Rattle.draws.specs.Draws.{run}
 use Rattle.shares.specs.Sharing.{boolean}
-use Rattle.shares.specs.Refresh.{refresh}
 use Rattle.shares.proofs.ArraysLaws.{whole, cut_off}
-use Rattle.shares.proofs.TurnLaws.{Remaining, remaining_start, remaining_words, remaining_none, remaining_ended, remaining_more}
+use Rattle.shares.proofs.TurnLaws.{remaining_start, remaining_words, remaining_none, remaining_ended, remaining_more}
 use Rattle.boolean.proofs.refresh_boolean.Goals as goal
 use Rattle.boolean.proofs.refresh_boolean.Goals.{After-draw}
 

@@ -1,9 +1,7 @@
-use borrow.Author.Rules.{rules}
-use mathlib.Core.Path.{◌≡◌, refl, ◌∙◌}
+use mathlib.Core.Path.{◌≡◌}
 use Prim.Native.Nat.{◌-◌, ◌≤◌}
 use lib.ListN.{length, drop}
 use Rattle.checks.specs.Checks.{all_below}
-use Rattle.checks.proofs.CheckLaws.{below_end, below_stop, below_more}
 use Rattle.checks.proofs.all_below.Given as goal
 
 abbrev pub invariant-loop-i : goal.invariant-loop-i

@@ -1,8 +1,6 @@
-use borrow.Author.Rules.{rules}
 use mathlib.Core.Path.{◌≡◌, sym, ◌∙◌}
 use mathlib.Core.List.{[]}
 use lib.ListN.{length}
-use borrow.Author.Tests.{not-true, not-false}
 use Rattle.checks.specs.Checks.{first_failing, checks_of, checks}
 use Rattle.checks.proofs.CheckLaws.{of_one, fails_as, fails_later, AllPassed, all_checked, below_fails, below_passes}
 use Rattle.checks.proofs.first_failing.Goals as goal

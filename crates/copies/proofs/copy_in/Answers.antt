@@ -1,7 +1,6 @@
 use borrow.Author.Rules.{rules}
 use Prim.Native.Nat.{◌-◌}
-use lib.ListN.{get_or}
-use Rattle.numbers.proofs.AlongLaws.{Along, along-start, along_more}
+use Rattle.numbers.proofs.AlongLaws.{along-start, along_more}
 use Rattle.copies.proofs.CopyLaws.{copied}
 use Rattle.copies.proofs.copy_in.Goals as goal
 

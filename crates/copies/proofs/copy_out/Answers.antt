@@ -1,6 +1,6 @@
 use borrow.Author.Rules.{rules}
 use Prim.Native.Nat.{◌-◌}
-use Rattle.copies.proofs.CopyLaws.{Writing, writing_start, writing_more, writing_all}
+use Rattle.copies.proofs.CopyLaws.{writing_start, writing_more, writing_all}
 use Rattle.copies.proofs.copy_out.Goals as goal
 
 pub loop-i-init : goal.loop-i-init

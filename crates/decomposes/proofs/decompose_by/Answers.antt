@@ -1,4 +1,3 @@
-use borrow.Author.Rules.{rules}
 use mathlib.Core.List.{[], ◌∷◌}
 use mathlib.Core.Path.{◌≡◌, sym, ap, ap₂, ◌∙◌, refl}
 use Prim.Native.Nat.{◌<◌}

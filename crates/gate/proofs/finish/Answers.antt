@@ -1,4 +1,3 @@
-use borrow.Author.Rules.{rules}
 use mathlib.Core.Path.{refl, ◌∙◌}
 use Rattle.shares.proofs.ArraysLaws.{handed_whole, handed_none}
 use Rattle.gate.proofs.GadgetLaws.{told_ended, told_ran}

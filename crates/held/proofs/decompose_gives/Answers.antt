@@ -1,5 +1,4 @@
 use mathlib.Core.Path.{◌∙◌}
-use borrow.Author.Rules.{rules}
 use Rattle.held.proofs.HeldLaws.{parts_held}
 use Rattle.held.proofs.decompose_gives.Goals as goal
 

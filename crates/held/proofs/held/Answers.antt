@@ -1,4 +1,3 @@
-use borrow.Author.Rules.{rules}
 use borrow.Author.Tests.{eq-eqb, ne_eqb}
 use Rattle.passing.specs.Held.{held}
 use Rattle.held.proofs.held.Goals as goal

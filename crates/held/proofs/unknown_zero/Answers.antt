@@ -1,4 +1,3 @@
-use borrow.Author.Rules.{rules}
 use mathlib.Core.Path.{ap, ◌∙◌}
 use borrow.Author.Tests.{eqb-true}
 use Rattle.checks.proofs.CheckLaws.{both_left}

@@ -1,4 +1,3 @@
-use borrow.Author.Rules.{rules}
 use mathlib.Core.Path.{ap, ◌∙◌}
 use Rattle.gate.specs.Told.{Told, judged_stands_for}
 use Rattle.passing.specs.Held.{held, verdict_shown}

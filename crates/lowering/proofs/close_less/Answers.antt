@@ -1,17 +1,14 @@
 use borrow.Author.Rules.{rules}
 use mathlib.Core.Path.{◌≡◌, refl, sym, ◌∙◌}
-use mathlib.Core.Logic.{⊎_elim}
 use Prim.Native.Nat.{◌-◌}
 use native.Mathlib.Omega.{arith}
-use lib.ListN.{get_or, take}
+use lib.ListN.{get_or}
 use Rattle.numbers.specs.Modulo.{sub_mod}
 use Rattle.numbers.proofs.WordsLaws.{words_same}
-use Rattle.draws.specs.Draws.{run}
 use Rattle.shares.specs.Sharing.{arithmetic}
-use Rattle.shares.specs.Refresh.{refresh}
 use Rattle.shares.specs.Arrays.{Held}
 use Rattle.shares.proofs.ArraysLaws.{held_at, next_whole, next_none, given_as, whole, cut_off}
-use Rattle.shares.proofs.TurnLaws.{Writing, writing_words, writing_none, writing_more, remaining_ended, remaining_draw}
+use Rattle.shares.proofs.TurnLaws.{writing_words, writing_none, writing_more, remaining_ended, remaining_draw}
 use Rattle.first.specs.First.{take_from_first}
 use Rattle.lowering.proofs.LessLaws.{less_first, less_other, less-held, less-start}
 use Rattle.lowering.proofs.close_less.Goals as goal
@@ -31,8 +28,8 @@ read : (c : Joined-i-eq0) →
 read c =
     let h = held (goal.at.Joined-i-eq0 c).Else-not-s in
     elim c.if-i-eq0.branch [
-    | then-i-eq0 w ↦ w.x-is ∙ lowered (goal.at.Joined-i-eq0 c).After-sub_mod-first ∙ sym (less_first _ _ _ _ h _ (omega (arith, w.if-i-eq0.true)))
-    | else-i-eq0 w ↦ w.x-is ∙ sym (less_other _ _ _ _ h _ (omega (arith, w.if-i-eq0.false)))
+      | then-i-eq0 w ↦ w.x-is ∙ lowered (goal.at.Joined-i-eq0 c).After-sub_mod-first ∙ sym (less_first _ _ _ _ h _ (omega (arith, w.if-i-eq0.true)))
+      | else-i-eq0 w ↦ w.x-is ∙ sym (less_other _ _ _ _ h _ (omega (arith, w.if-i-eq0.false)))
     ]
 
 pub returns-then-not-s : goal.returns-then-not-s

@@ -1,7 +1,6 @@
-use borrow.Author.Rules.{rules}
 use Prim.Native.Nat.{◌-◌}
 use Rattle.shares.proofs.ArraysLaws.{held_at}
-use Rattle.opening.proofs.OpeningLaws.{Opening, opening_start, opening_below, opening_more, opening_all}
+use Rattle.opening.proofs.OpeningLaws.{opening_start, opening_below, opening_more, opening_all}
 use Rattle.opening.proofs.opened.Goals as goal
 
 pub loop-i-init : goal.loop-i-init

@@ -1,4 +1,3 @@
-use borrow.Author.Rules.{rules}
 use mathlib.Core.Path.{◌≡◌, sym, ap, ap₂, ◌∙◌}
 use mathlib.Core.List.{[]}
 use Prim.Native.Nat.{ℕ, ◌*◌, ◌≤◌}
@@ -21,7 +20,7 @@ use Rattle.masks.specs.Sampling.{coefficient}
 use Rattle.masks.proofs.SampleSteps.{drawn_held, closed}
 use Rattle.demands.specs.Gadgets.{sampler}
 use Rattle.samplers.proofs.sample.Goals as goal
-use Rattle.samplers.proofs.sample.Goals.{After-drawn_mod_q, After-first_of_three-number, In-Set}
+use Rattle.samplers.proofs.sample.Goals.{After-first_of_three-number, In-Set}
 
 -- the first check that failed, the set being known or not
 number : (c : After-first_of_three-number) →

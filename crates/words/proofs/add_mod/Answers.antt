@@ -1,4 +1,3 @@
-use borrow.Author.Rules.{rules}
 use Rattle.words.proofs.WordLaws.{add_low, add_high}
 use Rattle.words.proofs.add_mod.Goals as goal
 

@@ -1,4 +1,3 @@
-use borrow.Author.Rules.{rules}
 use mathlib.Core.Path.{refl}
 use lib.Count.{leading_le}
 use Rattle.numbers.specs.Bits.{bits_of}

@@ -1,4 +1,3 @@
-use borrow.Author.Rules.{rules}
 use native.Mathlib.Omega.{arith}
 use Rattle.words.proofs.WordLaws.{neg_none, neg_some}
 use Rattle.words.proofs.neg_mod.Goals as goal

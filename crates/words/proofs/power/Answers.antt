@@ -1,4 +1,3 @@
-use borrow.Author.Rules.{rules}
 use native.Mathlib.Omega.{arith}
 use Rattle.words.proofs.WordLaws.{one_shl}
 use Rattle.words.proofs.power.Goals as goal

@@ -3,7 +3,7 @@ use Prim.Native.Nat.{◌-◌}
 use native.Mathlib.Omega.{arith}
 use native.Mathlib.Nat.{mod-lt}
 use Rattle.numbers.specs.Modulo.{add_mod}
-use Rattle.words.proofs.WordLaws.{Digits, digits_start, digits_below, digits_more, digits_all}
+use Rattle.words.proofs.WordLaws.{digits_start, digits_below, digits_more, digits_all}
 use Rattle.words.proofs.reduce_by_digits.Goals as goal
 
 pub loop-i-init : goal.loop-i-init

@@ -1,4 +1,3 @@
-use borrow.Author.Rules.{rules}
 use Rattle.words.proofs.WordLaws.{sub_low, sub_high}
 use Rattle.words.proofs.sub_mod.Goals as goal
 

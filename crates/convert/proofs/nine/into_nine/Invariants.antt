@@ -1,7 +1,5 @@
-use borrow.Author.Rules.{rules}
-use mathlib.Core.Path.{refl}
 use Prim.Native.Nat.{◌-◌}
-use Rattle.shares.proofs.ArraysLaws.{Copying, copying_start, copying_more, copying_all}
+use Rattle.shares.proofs.ArraysLaws.{Copying}
 use Rattle.convert.proofs.nine.into_nine.Given as goal
 
 abbrev pub invariant-loop-i : goal.invariant-loop-i

@@ -1,4 +1,3 @@
-use borrow.Author.Rules.{rules}
 use native.Mathlib.Omega.{arith}
 use Rattle.rules.proofs.NineLaws.{zero_held, zero_gave}
 use Rattle.convert.proofs.rule.to_arithmetic.Goals as goal

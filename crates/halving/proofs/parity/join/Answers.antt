@@ -2,7 +2,7 @@ use borrow.Author.Rules.{rules}
 use Prim.Native.Nat.{◌-◌}
 use native.Mathlib.Omega.{arith}
 use Rattle.numbers.proofs.WordsLaws.{words_at, words_same}
-use Rattle.halves.proofs.ParityLaws.{Signing, signing_start, signing_more, signing_all}
+use Rattle.halves.proofs.ParityLaws.{signing_start, signing_more, signing_all}
 use Rattle.halving.proofs.parity.join.Goals as goal
 
 pub loop-i-init : goal.loop-i-init

@@ -1,13 +1,9 @@
-use borrow.Author.Rules.{rules}
 use mathlib.Core.Path.{refl}
 use Prim.Native.Nat.{◌-◌}
 use native.Mathlib.Omega.{arith}
-use lib.ListN.{take}
-use Rattle.draws.specs.Draws.{run}
 use Rattle.shares.proofs.ArraysLaws.{gave, stopped, whole, cut_off}
 use Rattle.shares.proofs.LoopLaws.{looping_done}
-use Rattle.halves.specs.Halving.{shared_parity}
-use Rattle.halves.proofs.ParityLaws.{Joining, joining_start, joining_ended, joining_more}
+use Rattle.halves.proofs.ParityLaws.{joining_start, joining_ended, joining_more}
 use borrow.Author.Tests.{not-true, not-false}
 use Rattle.halving.proofs.parity.shared_parity.Goals as goal
 

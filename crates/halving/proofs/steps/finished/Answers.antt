@@ -1,4 +1,3 @@
-use borrow.Author.Rules.{rules}
 use mathlib.Core.Path.{◌≡◌, sym, ◌∙◌}
 use Prim.Native.Nat.{◌-◌, ◌*◌, ◌<◌}
 use native.Mathlib.Omega.{arith}
@@ -7,7 +6,7 @@ use Rattle.numbers.proofs.GroupLaws.{sub_small}
 use Rattle.numbers.proofs.WordsLaws.{words_take, words_same}
 use Rattle.halves.specs.Halving.{less}
 use Rattle.halves.proofs.HalvingLaws.{less_words}
-use Rattle.halves.proofs.FinishLaws.{Finishing, less_at, finishing_start, finishing_more, finishing_all}
+use Rattle.halves.proofs.FinishLaws.{less_at, finishing_start, finishing_more, finishing_all}
 use Rattle.halving.proofs.steps.finished.Goals as goal
 use Rattle.halving.proofs.steps.finished.Goals.{After-sub_mod-d}
 

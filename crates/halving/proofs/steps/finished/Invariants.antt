@@ -1,13 +1,7 @@
-use borrow.Author.Rules.{rules}
-use mathlib.Core.Path.{◌≡◌, sym, ◌∙◌}
-use Prim.Native.Nat.{◌-◌, ◌*◌, ◌<◌}
-use native.Mathlib.Omega.{arith}
-use lib.ListN.{get_or, take}
-use Rattle.numbers.proofs.GroupLaws.{sub_small}
-use Rattle.numbers.proofs.WordsLaws.{words_take, words_same}
+use Prim.Native.Nat.{◌-◌, ◌*◌}
+use lib.ListN.{take}
 use Rattle.halves.specs.Halving.{less}
-use Rattle.halves.proofs.HalvingLaws.{less_words}
-use Rattle.halves.proofs.FinishLaws.{Finishing, less_at, finishing_start, finishing_more, finishing_all}
+use Rattle.halves.proofs.FinishLaws.{Finishing}
 use Rattle.halving.proofs.steps.finished.Given as goal
 
 abbrev pub invariant-loop-i : goal.invariant-loop-i

@@ -1,4 +1,3 @@
-use borrow.Author.Rules.{rules}
 use mathlib.Core.Path.{refl}
 use Rattle.shares.proofs.ArraysLaws.{gave, stopped, whole, cut_off}
 use Rattle.halves.proofs.HalvingLaws.{halving_ran, halving_ended}

@@ -1,4 +1,3 @@
-use borrow.Author.Rules.{rules}
 use mathlib.Core.Path.{sym}
 use Rattle.params.proofs.SetLaws.{set_known, set_unknown}
 use Rattle.params.proofs.Params.known.Goals as goal

@@ -1,4 +1,3 @@
-use borrow.Author.Rules.{rules}
 use borrow.Author.Tests.{ne_eqb}
 use Rattle.params.specs.Sets.{set_of}
 use Rattle.params.specs.Answers.{choice_stands_for}

@@ -1,4 +1,4 @@
-use Rattle.std.proofs.Common.{◌*◌, ◌/◌, ◌≤◌, mul-le-mul_left, arith, rules}
+use Rattle.std.proofs.Common.{◌*◌, ◌/◌, ◌≤◌, mul-le-mul_left, arith}
 use Rattle.residues.proofs.lines.neighbour.Goals as goal
 use Rattle.residues.proofs.lines.neighbour.Goals.{After-gamma2}
 

@@ -1,4 +1,4 @@
-use Rattle.std.proofs.Common.{sym, arith, length-take-le, rules}
+use Rattle.std.proofs.Common.{sym, arith, length-take-le}
 use Rattle.residues.proofs.tried.tried.Goals as goal
 
 pub slice_bounds-on_room-end : goal.slice_bounds-on_room-end

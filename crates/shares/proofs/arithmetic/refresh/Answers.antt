@@ -1,4 +1,3 @@
-use borrow.Author.Rules.{rules}
 use mathlib.Core.Path.{refl, sym}
 use Rattle.shares.proofs.ArraysLaws.{next_whole, given_as}
 use Rattle.shares.proofs.arithmetic.refresh.Goals as goal

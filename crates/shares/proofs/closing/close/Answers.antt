@@ -2,15 +2,10 @@ use borrow.Author.Rules.{rules}
 use mathlib.Core.Path.{refl}
 use native.Mathlib.Omega.{arith}
 use Prim.Native.Nat.{◌-◌}
-use lib.ListN.{take}
-use borrow.Author.Tests.{not-false}
 use Rattle.numbers.proofs.WordsLaws.{words_same}
-use Rattle.draws.specs.Draws.{run}
-use Rattle.shares.specs.Sharing.{arithmetic}
-use Rattle.shares.specs.Refresh.{refresh}
 use Rattle.shares.specs.Arrays.{Held}
 use Rattle.shares.proofs.ArraysLaws.{held_at, next_whole, next_none, given_as, whole, cut_off}
-use Rattle.shares.proofs.TurnLaws.{Writing, writing_start, writing_words, writing_none, writing_more, remaining_ended, remaining_draw}
+use Rattle.shares.proofs.TurnLaws.{writing_start, writing_words, writing_none, writing_more, remaining_ended, remaining_draw}
 use Rattle.shares.proofs.closing.close.Goals as goal
 use Rattle.shares.proofs.closing.close.Goals.{After-cur-1}
 
