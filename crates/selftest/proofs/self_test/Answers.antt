@@ -1,4 +1,3 @@
-use borrow.Author.Rules.{rules}
 use Rattle.selftest.proofs.TestLaws.{none_wrong}
 use Rattle.selftest.proofs.self_test.Goals as goal
 

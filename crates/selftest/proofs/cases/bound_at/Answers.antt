@@ -1,4 +1,3 @@
-use borrow.Author.Rules.{rules}
 use Rattle.selftest.proofs.TestLaws.{first_fails, second_tells}
 use Rattle.selftest.proofs.cases.bound_at.Goals as goal
 

@@ -1,4 +1,3 @@
-use borrow.Author.Rules.{rules}
 use Rattle.passing.proofs.CaseLaws.{passing}
 use Rattle.selftest.proofs.TestLaws.{never}
 use Rattle.selftest.proofs.cases.counts.Goals as goal

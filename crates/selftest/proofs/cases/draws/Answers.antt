@@ -1,4 +1,3 @@
-use borrow.Author.Rules.{rules}
 use native.Mathlib.Omega.{arith}
 use Rattle.passing.proofs.CaseLaws.{passing}
 use Rattle.selftest.proofs.TestLaws.{never, two_held}
