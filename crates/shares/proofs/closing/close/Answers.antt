@@ -7,28 +7,28 @@ use Rattle.shares.specs.Arrays.{Held}
 use Rattle.shares.proofs.ArraysLaws.{held_at, next_whole, next_none, given_as, whole, cut_off}
 use Rattle.shares.proofs.TurnLaws.{writing_start, writing_words, writing_none, writing_more, remaining_ended, remaining_draw}
 use Rattle.shares.proofs.closing.close.Goals as goal
-use Rattle.shares.proofs.closing.close.Goals.{After-cur-1}
+use Rattle.shares.proofs.closing.close.Goals.{Else-not-s}
 
-held : (c : After-cur-1) → let a = c.args in Held 8 a.n a.m a.s.words
+held : (c : Else-not-s) → let a = c.args in Held 8 a.n a.m a.s.words
 held c = c.requires c.if-not-s.false
 
 pub returns-then-not-s : goal.returns-then-not-s
 returns-then-not-s c = cut_off c.ended.ensures (next_none _ _ _ _ _ c.if-not-s.true)
 
 pub overflow_sub-last : goal.overflow_sub-last
-overflow_sub-last c = omega (arith, (held c).least)
+overflow_sub-last c = omega (arith, (held (goal.at.overflow_sub-last c).Else-not-s).least)
 
 pub offset_bounds-s-last : goal.offset_bounds-s-last
-offset_bounds-s-last c = let h = (held c).most in search rules
+offset_bounds-s-last c = let h = (held (goal.at.offset_bounds-s-last c).Else-not-s).most in search rules
 
 pub bounds-s-last : goal.bounds-s-last
 bounds-s-last c = omega (arith, (held c).least, (held c).most)
 
 pub loop-i-init : goal.loop-i-init
-loop-i-init c = let h = held (goal.at.loop-i-init c).After-cur-1 in writing_start _ _ _ _ _ _ h (words_same (omega (arith, h.two)))
+loop-i-init c = let h = held (goal.at.loop-i-init c).Else-not-s in writing_start _ _ _ _ _ _ h (words_same (omega (arith, h.two)))
 
 pub draw-requires : goal.draw-requires
-draw-requires c = (held (goal.at.draw-requires c).After-cur-1).two
+draw-requires c = (held (goal.at.draw-requires c).Else-not-s).two
 
 pub returns-in_default : goal.returns-in_default
 returns-in_default c =
@@ -37,7 +37,7 @@ returns-in_default c =
 
 pub add_mod-requires : goal.add_mod-requires
 add_mod-requires c =
-    (held_at (held (goal.at.add_mod-requires c).After-cur-1) _, remaining_draw c.loop-i.invariant.left c.loop-i-test.true _ c.draw.ensures c.in-Got.is)
+    (held_at (held (goal.at.add_mod-requires c).Else-not-s) _, remaining_draw c.loop-i.invariant.left c.loop-i-test.true _ c.draw.ensures c.in-Got.is)
 
 pub sub_mod-last_share-requires : goal.sub_mod-last_share-requires
 sub_mod-last_share-requires c =
