@@ -22,7 +22,7 @@ pub offset_bounds-s-last : goal.offset_bounds-s-last
 offset_bounds-s-last c = let h = (held (goal.at.offset_bounds-s-last c).Else-not-s).most in search rules
 
 pub bounds-s-last : goal.bounds-s-last
-bounds-s-last c = omega (arith, (held c).least, (held c).most)
+bounds-s-last c = omega (arith, (held (goal.at.bounds-s-last c).Else-not-s).least, (held (goal.at.bounds-s-last c).Else-not-s).most)
 
 pub loop-i-init : goal.loop-i-init
 loop-i-init c = let h = held (goal.at.loop-i-init c).Else-not-s in writing_start _ _ _ _ _ _ h (words_same (omega (arith, h.two)))
