@@ -1,6 +1,5 @@
 use borrow.Author.Rules.{rules}
 use mathlib.Core.Path.{refl, ◌∙◌}
-use Prim.Native.Nat.{◌-◌}
 use Rattle.checks.proofs.CheckLaws.{below_end, below_stop, below_more}
 use Rattle.checks.proofs.all_below.Goals as goal
 

@@ -1,5 +1,4 @@
 use borrow.Author.Rules.{rules}
-use Prim.Native.Nat.{◌-◌}
 use Rattle.numbers.proofs.AlongLaws.{along-start, along_more}
 use Rattle.copies.proofs.CopyLaws.{copied}
 use Rattle.copies.proofs.copy_in.Goals as goal

@@ -1,4 +1,3 @@
-use Prim.Native.Nat.{◌-◌}
 use lib.ListN.{get_or}
 use Rattle.numbers.proofs.AlongLaws.{Along}
 use Rattle.copies.proofs.copy_in.Given as goal

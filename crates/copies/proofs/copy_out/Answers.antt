@@ -1,5 +1,4 @@
 use borrow.Author.Rules.{rules}
-use Prim.Native.Nat.{◌-◌}
 use Rattle.copies.proofs.CopyLaws.{writing_start, writing_more, writing_all}
 use Rattle.copies.proofs.copy_out.Goals as goal
 

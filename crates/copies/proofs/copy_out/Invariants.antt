@@ -1,4 +1,3 @@
-use Prim.Native.Nat.{◌-◌}
 use Rattle.copies.proofs.CopyLaws.{Writing}
 use Rattle.copies.proofs.copy_out.Given as goal
 

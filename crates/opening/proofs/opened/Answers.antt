@@ -1,4 +1,3 @@
-use Prim.Native.Nat.{◌-◌}
 use Rattle.shares.proofs.ArraysLaws.{held_at}
 use Rattle.opening.proofs.OpeningLaws.{opening_start, opening_below, opening_more, opening_all}
 use Rattle.opening.proofs.opened.Goals as goal

@@ -1,4 +1,3 @@
-use Prim.Native.Nat.{◌-◌}
 use Rattle.opening.proofs.OpeningLaws.{Opening}
 use Rattle.opening.proofs.opened.Given as goal
 

@@ -1,4 +1,3 @@
-use Prim.Native.Nat.{◌-◌}
 use Rattle.words.proofs.WordLaws.{Digits}
 use Rattle.words.proofs.reduce_by_digits.Given as goal
 

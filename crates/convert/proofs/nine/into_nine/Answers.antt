@@ -1,6 +1,5 @@
 use borrow.Author.Rules.{rules}
 use mathlib.Core.Path.{refl}
-use Prim.Native.Nat.{◌-◌}
 use Rattle.shares.proofs.ArraysLaws.{copying_start, copying_more, copying_all}
 use Rattle.convert.proofs.nine.into_nine.Goals as goal
 

@@ -1,4 +1,3 @@
-use Prim.Native.Nat.{◌-◌}
 use Rattle.shares.proofs.ArraysLaws.{Copying}
 use Rattle.convert.proofs.nine.into_nine.Given as goal
 

@@ -1,5 +1,5 @@
 use mathlib.Core.Path.{◌≡◌, refl, ap, ◌∙◌}
-use Prim.Native.Nat.{◌-◌, ◌^◌}
+use Prim.Native.Nat.{◌^◌}
 use Rattle.numbers.specs.Modulo.{xor}
 use Rattle.tape.specs.Tape.{draw_at}
 use Rattle.tape.specs.Answers.{draw_stands_for}

@@ -1,4 +1,3 @@
-use Prim.Native.Nat.{◌-◌}
 use Rattle.halves.proofs.ParityLaws.{Signing}
 use Rattle.halving.proofs.parity.join.Given as goal
 

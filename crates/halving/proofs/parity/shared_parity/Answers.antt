@@ -1,5 +1,4 @@
 use mathlib.Core.Path.{refl}
-use Prim.Native.Nat.{◌-◌}
 use native.Mathlib.Omega.{arith}
 use Rattle.shares.proofs.ArraysLaws.{gave, stopped, whole, cut_off}
 use Rattle.shares.proofs.LoopLaws.{looping_done}

@@ -1,4 +1,3 @@
-use Prim.Native.Nat.{◌-◌}
 use lib.ListN.{take}
 use Rattle.draws.specs.Draws.{run}
 use Rattle.halves.specs.Halving.{shared_parity}

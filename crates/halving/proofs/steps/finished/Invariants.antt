@@ -1,4 +1,4 @@
-use Prim.Native.Nat.{◌-◌, ◌*◌}
+use Prim.Native.Nat.{◌*◌}
 use lib.ListN.{take}
 use Rattle.halves.specs.Halving.{less}
 use Rattle.halves.proofs.FinishLaws.{Finishing}
