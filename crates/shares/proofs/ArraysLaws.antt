@@ -1,12 +1,13 @@
 -- Laws of arrays of shares, and of what the code's answers stand for.
 use mathlib.Core.Path.{◌≡◌, refl, sym, ap, subst, ◌∙◌}
-use mathlib.Core.Bool.{Bool, true, false}
+use mathlib.Core.Bool.{Bool, true, false, not}
 use mathlib.Core.List.{List}
 use Prim.Native.Nat.{ℕ, ◌+◌, ◌≤◌, ◌<◌}
 use native.Mathlib.Nat.{le_antisymm}
 use native.Mathlib.Omega.{arith}
 use lib.ListN.{length, get_or, take, set, replicate, length-set, length-replicate}
 use lib.Seq.{take-length, take-take}
+use borrow.Author.Tests.{not-true, not-false}
 use Rattle.numbers.specs.Lists.{Words}
 use Rattle.numbers.proofs.WordsLaws.{words_at, words_set, words_same, copy_more}
 use Rattle.tape.specs.declared.Cursor.{Cursor}
@@ -93,11 +94,18 @@ module _ (n : ℕ) (ok : Bool) (words : List ℕ) (c : Cursor) where
 
 module _ {size n M : ℕ} {ok : Bool} {words : List ℕ} {c : Cursor} {x : Ran (List ℕ)} where
   -- what a call gave
-  pub gave : Given size n M ok words c x → ok ≡ true → x ≡ ran (take n words) c
-  gave g t = sym g.is ∙ handed_whole n ok words c t
+  pub gave_true : Given size n M ok words c x → ok ≡ true → x ≡ ran (take n words) c
+  gave_true g t = sym g.is ∙ handed_whole n ok words c t
 
-  pub stopped : Given size n M ok words c x → ok ≡ false → x ≡ ended
-  stopped g t = sym g.is ∙ handed_none n ok words c t
+  pub stopped_false : Given size n M ok words c x → ok ≡ false → x ≡ ended
+  stopped_false g t = sym g.is ∙ handed_none n ok words c t
+
+  -- and where it was asked whether it was not whole
+  pub gave : Given size n M ok words c x → not ok ≡ false → x ≡ ran (take n words) c
+  gave g t = gave_true g (not-false ok t)
+
+  pub stopped : Given size n M ok words c x → not ok ≡ true → x ≡ ended
+  stopped g t = stopped_false g (not-true ok t)
 
   -- and so of what is the same
   pub given_as : {y : Ran (List ℕ)} → Given size n M ok words c x → x ≡ y → Given size n M ok words c y

@@ -12,7 +12,7 @@ use Rattle.draws.specs.Draws.{done, draw, run}
 use Rattle.draws.proofs.RunLaws.{run_done}
 use Rattle.shares.specs.Sharing.{boolean}
 use Rattle.shares.specs.Refresh.{refresh}
-use Rattle.shares.proofs.ArraysLaws.{gave, stopped, whole, cut_off}
+use Rattle.shares.proofs.ArraysLaws.{gave_true, stopped_false, whole, cut_off}
 use Rattle.rules.specs.Psi.{z_of}
 use Rattle.rules.proofs.ListLaws.{z_words}
 use Rattle.rules.proofs.RuleLaws.{refresh_ended, u_ended, z_ended, rule_gave, same_shares, Left, draw_ended, drew, four, refresh_four, fresh_below, four_z, four_added, four_below, three_held}
@@ -112,7 +112,7 @@ of_three-of_u-requires c = (c.requires.0, three_held c.requires.1.two (words_tai
 pub returns-then-not-of_u : goal.returns-then-not-of_u
 unfolding xor
 returns-then-not-of_u c =
-    cut_off c.ended-then-not-of_u.ensures (u_ended _ refl _ _ _ _ (refreshed (goal.at.returns-then-not-of_u c).In-Got-draw-2) (stopped c.of_three-of_u.ensures c.if-not-of_u.true))
+    cut_off c.ended-then-not-of_u.ensures (u_ended _ refl _ _ _ _ (refreshed (goal.at.returns-then-not-of_u c).In-Got-draw-2) (stopped_false c.of_three-of_u.ensures c.if-not-of_u.true))
 
 pub psi-requires : goal.psi-requires
 psi-requires c = c.requires.0
@@ -130,8 +130,8 @@ of_three-of_z-requires c =
 pub returns-then-not-of_z : goal.returns-then-not-of_z
 unfolding xor
 returns-then-not-of_z c =
-    cut_off c.ended-then-not-of_z.ensures (z_ended _ refl _ _ _ _ (refreshed (goal.at.returns-then-not-of_z c).In-Got-draw-2) (gave c.of_three-of_u.ensures c.if-not-of_u.false)
-    (same_shares _ _ _ _ (zs (goal.at.returns-then-not-of_z c).After-psi-3) (stopped c.of_three-of_z.ensures c.if-not-of_z.true)))
+    cut_off c.ended-then-not-of_z.ensures (z_ended _ refl _ _ _ _ (refreshed (goal.at.returns-then-not-of_z c).In-Got-draw-2) (gave_true c.of_three-of_u.ensures c.if-not-of_u.false)
+    (same_shares _ _ _ _ (zs (goal.at.returns-then-not-of_z c).After-psi-3) (stopped_false c.of_three-of_z.ensures c.if-not-of_z.true)))
 
 pub add_mod-sum-requires : goal.add_mod-sum-requires
 add_mod-sum-requires c =
@@ -141,5 +141,5 @@ pub returns : goal.returns
 unfolding xor
 returns c =
     whole refl (four_below _ (total (goal.at.returns c).After-add_mod-sum) (u_below (goal.at.returns c).Else-not-of_u) (z_below (goal.at.returns c).Else-not-of_z))
-    (rule_gave _ refl _ _ _ _ (refreshed (goal.at.returns c).In-Got-draw-2) (gave c.of_three-of_u.ensures c.if-not-of_u.false)
-    (same_shares _ _ _ _ (zs (goal.at.returns c).After-psi-3) (gave c.of_three-of_z.ensures c.if-not-of_z.false)) (four_added _ (total (goal.at.returns c).After-add_mod-sum) (u_below (goal.at.returns c).Else-not-of_u) (z_below (goal.at.returns c).Else-not-of_z)))
+    (rule_gave _ refl _ _ _ _ (refreshed (goal.at.returns c).In-Got-draw-2) (gave_true c.of_three-of_u.ensures c.if-not-of_u.false)
+    (same_shares _ _ _ _ (zs (goal.at.returns c).After-psi-3) (gave_true c.of_three-of_z.ensures c.if-not-of_z.false)) (four_added _ (total (goal.at.returns c).After-add_mod-sum) (u_below (goal.at.returns c).Else-not-of_u) (z_below (goal.at.returns c).Else-not-of_z)))

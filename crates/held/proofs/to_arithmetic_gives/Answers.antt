@@ -8,7 +8,7 @@ use Rattle.draws.specs.Draws.{bind, run}
 use Rattle.shares.specs.Sharing.{arithmetic}
 use Rattle.shares.specs.Refresh.{refresh}
 use Rattle.shares.specs.Arrays.{Gave}
-use Rattle.shares.proofs.ArraysLaws.{held_of, gave, stopped, given_as, followed}
+use Rattle.shares.proofs.ArraysLaws.{held_of, gave_true, stopped_false, given_as, followed}
 use Rattle.rules.specs.ToArithmetic.{to_arithmetic}
 use Rattle.held.proofs.HeldLaws.{steps_none, steps_gave}
 use Rattle.held.proofs.to_arithmetic_gives.Goals as goal
@@ -35,7 +35,7 @@ pub close-closed-requires : goal.close-closed-requires
 close-closed-requires c = λ ok. rw c.power.ensures (held_of {words = c.args.shares} (rw (same (goal.at.close-closed-requires c).After-unknown_zero) c.requires.1) (c.to_arithmetic-s.ensures.below ok))
 
 pub returns-then-not-closed : goal.returns-then-not-closed
-returns-then-not-closed c = steps_none _ (stopped (both (goal.at.returns-then-not-closed c).After-close-closed) c.if-not-closed.true)
+returns-then-not-closed c = steps_none _ (stopped_false (both (goal.at.returns-then-not-closed c).After-close-closed) c.if-not-closed.true)
 
 pub returns : goal.returns
-returns c = c.held.ensures ∙ steps_gave _ c.close-closed.result.words (gave (both (goal.at.returns c).After-close-closed) c.if-not-closed.false)
+returns c = c.held.ensures ∙ steps_gave _ c.close-closed.result.words (gave_true (both (goal.at.returns c).After-close-closed) c.if-not-closed.false)

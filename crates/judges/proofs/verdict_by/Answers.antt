@@ -9,7 +9,7 @@ use Rattle.shares.proofs.ArraysLaws.{given_as, gave, stopped}
 use Rattle.gate.proofs.GadgetLaws.{held, held_given}
 use Rattle.sizes.specs.Verdict.{tested}
 use Rattle.judges.proofs.JudgeLaws.{judged_ended, judged_ran}
-use borrow.Author.Tests.{not-true, not-false}
+use borrow.Author.Tests.{not-false}
 use Rattle.judges.proofs.verdict_by.Goals as goal
 use Rattle.judges.proofs.verdict_by.Goals.{After-tested_shares-s}
 
@@ -28,10 +28,10 @@ pub tested_shares-s-requires : goal.tested_shares-s-requires
 tested_shares-s-requires c = (c.requires.0, held c.requires.1 (omega arith) c.copy_in.ensures)
 
 pub returns-then-not-s : goal.returns-then-not-s
-returns-then-not-s c = c.refused_verdict.ensures ∙ judged_ended c.args.bounds _ _ _ (stopped (of_caller (goal.at.returns-then-not-s c).After-tested_shares-s) (not-true _ c.if-not-s.true))
+returns-then-not-s c = c.refused_verdict.ensures ∙ judged_ended c.args.bounds _ _ _ (stopped (of_caller (goal.at.returns-then-not-s c).After-tested_shares-s) c.if-not-s.true)
 
 pub opened-sum-requires : goal.opened-sum-requires
 opened-sum-requires c = held_given c.requires.1 (omega arith) c.tested_shares-s.ensures (not-false _ c.if-not-s.false)
 
 pub returns : goal.returns
-returns c = judged_ran c.args.bounds _ _ _ _ (gave (of_caller (goal.at.returns c).After-tested_shares-s) (not-false _ c.if-not-s.false)) c.opened-sum.ensures _ refl c.verdict_of.ensures refl refl
+returns c = judged_ran c.args.bounds _ _ _ _ (gave (of_caller (goal.at.returns c).After-tested_shares-s) c.if-not-s.false) c.opened-sum.ensures _ refl c.verdict_of.ensures refl refl

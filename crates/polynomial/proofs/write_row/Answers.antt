@@ -12,7 +12,6 @@ use Rattle.shares.proofs.ArraysLaws.{gave, stopped}
 use Rattle.masks.specs.Sampling.{coefficient}
 use Rattle.masks.proofs.SampleSteps.{drawn_held, closed}
 use Rattle.polynomial.specs.Answers.{written_stands_for}
-use borrow.Author.Tests.{not-true, not-false}
 use Rattle.polynomial.proofs.write_row.Goals as goal
 use Rattle.polynomial.proofs.write_row.Goals.{After-close_less-s}
 
@@ -27,9 +26,9 @@ row c = closed _ _ _ _ c.drawn_mod_q.ensures c.close_less-s.ensures
 
 pub returns-then-not-s : goal.returns-then-not-s
 unfolding written_stands_for
-returns-then-not-s c = sym (stopped (row (goal.at.returns-then-not-s c).After-close_less-s) (not-true _ c.if-not-s.true))
+returns-then-not-s c = sym (stopped (row (goal.at.returns-then-not-s c).After-close_less-s) c.if-not-s.true)
 
 pub returns : goal.returns
 unfolding written_stands_for
 returns c =
-    ap (λ (l : List ℕ). ran l c.close_less-s.result.cursor) (c.copy_out.ensures ∙ ap (λ (k : ℕ). take k c.close_less-s.result.words) c.requires.3) ∙ sym (gave (row (goal.at.returns c).After-close_less-s) (not-false _ c.if-not-s.false))
+    ap (λ (l : List ℕ). ran l c.close_less-s.result.cursor) (c.copy_out.ensures ∙ ap (λ (k : ℕ). take k c.close_less-s.result.words) c.requires.3) ∙ sym (gave (row (goal.at.returns c).After-close_less-s) c.if-not-s.false)

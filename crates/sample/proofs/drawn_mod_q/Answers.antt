@@ -6,7 +6,7 @@ use Rattle.params.proofs.RoomLaws.{alpha_most, q_room, mask_least, mask_most}
 use Rattle.draws.proofs.RunLaws.{bind_ran, bind_ended}
 use Rattle.shares.specs.Arrays.{Held}
 use Rattle.shares.proofs.ArraysLaws.{given_as, gave, stopped, cut_off}
-use borrow.Author.Tests.{not-true, not-false}
+use borrow.Author.Tests.{not-false}
 use Rattle.sample.proofs.drawn_mod_q.Goals as goal
 use Rattle.sample.proofs.drawn_mod_q.Goals.{Else-not-drawn}
 
@@ -23,7 +23,7 @@ draw_shares-drawn-requires c = let p = c.requires in (p.1, p.2, mask_least p.0, 
 
 pub returns-then-not-drawn : goal.returns-then-not-drawn
 returns-then-not-drawn c =
-    cut_off c.ended.ensures (sym (bind_ended _ _ _ _ (stopped c.draw_shares-drawn.ensures (not-true _ c.if-not-drawn.true))))
+    cut_off c.ended.ensures (sym (bind_ended _ _ _ _ (stopped c.draw_shares-drawn.ensures c.if-not-drawn.true)))
 
 pub to_modulus-requires : goal.to_modulus-requires
 to_modulus-requires c =
@@ -32,4 +32,4 @@ to_modulus-requires c =
 
 pub returns : goal.returns
 returns c =
-    given_as c.to_modulus.ensures (sym (bind_ran _ _ _ _ _ _ (gave c.draw_shares-drawn.ensures (not-false _ c.if-not-drawn.false))))
+    given_as c.to_modulus.ensures (sym (bind_ran _ _ _ _ _ _ (gave c.draw_shares-drawn.ensures c.if-not-drawn.false)))

@@ -11,14 +11,14 @@ use Rattle.shares.proofs.NegatedLaws.{negated-take, negated_words}
 use Rattle.sizes.specs.Widening.{wide}
 use Rattle.sizes.specs.Sides.{side}
 use Rattle.sizes.proofs.SidesSteps.{left_ended, right_ended, fresh_ended, to_product}
-use borrow.Author.Tests.{not-true, not-false}
+use borrow.Author.Tests.{not-false}
 use Rattle.sides.proofs.sides_product.Goals as goal
 use Rattle.sides.proofs.sides_product.Goals.{After-negated, After-side-right, Else-not-left}
 
 left : (c : Else-not-left) →
     let a = c.args in
     run (side a.bounds (take a.n a.shares)) a.tape.now a.cursor ≡ ran (take a.n c.side-left.result.words) c.side-left.result.cursor
-left c = gave c.side-left.ensures (not-false _ c.if-not-left.false)
+left c = gave c.side-left.ensures c.if-not-left.false
 
 held_left : (c : Else-not-left) → Held 8 c.args.n q c.side-left.result.words
 held_left c = held_below c.requires.1 (omega arith) (c.side-left.ensures.below (not-false _ c.if-not-left.false))
@@ -37,7 +37,7 @@ right c =
 
 pub returns-then-not-left : goal.returns-then-not-left
 returns-then-not-left c =
-    cut_off c.ended.ensures (left_ended c.args.bounds _ _ _ (stopped c.side-left.ensures (not-true _ c.if-not-left.true)))
+    cut_off c.ended.ensures (left_ended c.args.bounds _ _ _ (stopped c.side-left.ensures c.if-not-left.true))
 
 pub negated-requires : goal.negated-requires
 negated-requires c = rw c.wide.ensures c.requires.1.all
@@ -48,7 +48,7 @@ side-right-requires c =
 
 pub returns-then-not-right : goal.returns-then-not-right
 returns-then-not-right c =
-    cut_off c.ended-then-not-right.ensures (right_ended c.args.bounds _ _ _ _ (left (goal.at.returns-then-not-right c).Else-not-left) (stopped (right (goal.at.returns-then-not-right c).After-side-right) (not-true _ c.if-not-right.true)))
+    cut_off c.ended-then-not-right.ensures (right_ended c.args.bounds _ _ _ _ (left (goal.at.returns-then-not-right c).Else-not-left) (stopped (right (goal.at.returns-then-not-right c).After-side-right) c.if-not-right.true))
 
 pub refresh-fresh-requires : goal.refresh-fresh-requires
 refresh-fresh-requires c = held_left (goal.at.refresh-fresh-requires c).Else-not-left
@@ -56,7 +56,7 @@ refresh-fresh-requires c = held_left (goal.at.refresh-fresh-requires c).Else-not
 pub returns-then-not-fresh : goal.returns-then-not-fresh
 returns-then-not-fresh c =
     cut_off c.ended-then-not-fresh.ensures
-    (fresh_ended c.args.bounds _ _ _ _ (left (goal.at.returns-then-not-fresh c).Else-not-left) _ (gave (right (goal.at.returns-then-not-fresh c).After-side-right) (not-false _ c.if-not-right.false)) (stopped c.refresh-fresh.ensures (not-true _ c.if-not-fresh.true)))
+    (fresh_ended c.args.bounds _ _ _ _ (left (goal.at.returns-then-not-fresh c).Else-not-left) _ (gave (right (goal.at.returns-then-not-fresh c).After-side-right) c.if-not-right.false) (stopped c.refresh-fresh.ensures c.if-not-fresh.true))
 
 pub product-requires : goal.product-requires
 product-requires c =
@@ -65,4 +65,4 @@ product-requires c =
 pub returns : goal.returns
 returns c =
     given_as c.product.ensures
-    (to_product c.args.bounds _ _ _ _ (left (goal.at.returns c).Else-not-left) _ (gave (right (goal.at.returns c).After-side-right) (not-false _ c.if-not-right.false)) _ (gave c.refresh-fresh.ensures (not-false _ c.if-not-fresh.false)))
+    (to_product c.args.bounds _ _ _ _ (left (goal.at.returns c).Else-not-left) _ (gave (right (goal.at.returns c).After-side-right) c.if-not-right.false) _ (gave c.refresh-fresh.ensures c.if-not-fresh.false))

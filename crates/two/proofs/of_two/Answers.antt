@@ -6,7 +6,7 @@ use native.Mathlib.Omega.{arith}
 use lib.ListN.{take}
 use Rattle.numbers.proofs.WordsLaws.{words_head, words_tail}
 use Rattle.tape.specs.Tape.{ran}
-use Rattle.shares.proofs.ArraysLaws.{gave, stopped, whole, cut_off}
+use Rattle.shares.proofs.ArraysLaws.{gave_true, stopped_false, whole, cut_off}
 use Rattle.halves.proofs.HalvingsLaws.{gathered_two, take_two, words_two, words_eight, halved_fits, halved_start, halved_bits, halved_words, halved_gathered_words, halved_shares, halved_gathered, halved_held, halved_ended, halved_more}
 use Rattle.two.proofs.of_two.Goals as goal
 
@@ -32,14 +32,14 @@ halve_two-s-requires c = let l = c.loop-b.invariant in
     (words_head h, words_head (words_tail h), omega (arith, l.word))
 
 pub returns-then-not-s : goal.returns-then-not-s
-returns-then-not-s c = cut_off c.ended.ensures (halved_ended c.loop-b.invariant c.loop-b-test.true (stopped c.halve_two-s.ensures c.if-not-s.true))
+returns-then-not-s c = cut_off c.ended.ensures (halved_ended c.loop-b.invariant c.loop-b-test.true (stopped_false c.halve_two-s.ensures c.if-not-s.true))
 
 pub loop-b-preserved : goal.loop-b-preserved
 loop-b-preserved c = let a = c.loop-b in
     let l = a.invariant in
     let r = c.halve_two-s.result in
     let b = c.halve_two-s.ensures.below c.if-not-s.false in
-    halved_more l c.loop-b-test.true (gave c.halve_two-s.ensures c.if-not-s.false ∙ ap (λ (xs : List ℕ). ran xs r.cursor) (sym (take_two r.words (omega (arith, b.size)))))
+    halved_more l c.loop-b-test.true (gave_true c.halve_two-s.ensures c.if-not-s.false ∙ ap (λ (xs : List ℕ). ran xs r.cursor) (sym (take_two r.words (omega (arith, b.size)))))
     (words_two (omega (arith, (halved_held l c.loop-b-test.true).two)) b)
     (ap₂ (λ (u v : ℕ). u ∷ v ∷ []) c.gathered_word-u.ensures c.gathered_word-v.ensures ∙ gathered_two c.args.gathers a.b a.first a.second a.u a.v)
 

@@ -13,7 +13,7 @@ use Rattle.first.specs.First.{add_to_first, take_from_first}
 use Rattle.halves.specs.Carries.{carries, without}
 use Rattle.sizes.specs.Widening.{wide, widened}
 use Rattle.sizes.proofs.WideningSteps.{offset_words, reach_wide, widened_words, floors_room, count_room, widen_ended, widen_ran}
-use borrow.Author.Tests.{not-true, not-false}
+use borrow.Author.Tests.{not-false}
 use Rattle.widening.proofs.widen.Goals as goal
 use Rattle.widening.proofs.widen.Goals.{After-alpha-t, After-carries_by_q-carries, After-take_from_first, After-without_carries}
 
@@ -72,7 +72,7 @@ carries_by_q-carries-requires c = let (r, h) = c.requires in
     (omega (arith, alpha_most _ h.most), wraps_least r, wraps_room r _ h.most, count_room r _, floors_room r _, offset (goal.at.carries_by_q-carries-requires c).After-alpha-t)
 
 pub returns-then-not-carries : goal.returns-then-not-carries
-returns-then-not-carries c = cut_off c.ended.ensures (widen_ended _ _ _ _ (omega (arith, c.requires.1.least)) (fit (goal.at.returns-then-not-carries c).After-alpha-t) (ap (λ j. j + 1) c.alpha-t.ensures) (stopped (carried (goal.at.returns-then-not-carries c).After-carries_by_q-carries) (not-true _ c.if-not-carries.true)))
+returns-then-not-carries c = cut_off c.ended.ensures (widen_ended _ _ _ _ (omega (arith, c.requires.1.least)) (fit (goal.at.returns-then-not-carries c).After-alpha-t) (ap (λ j. j + 1) c.alpha-t.ensures) (stopped (carried (goal.at.returns-then-not-carries c).After-carries_by_q-carries) c.if-not-carries.true))
 
 pub wide-m-requires : goal.wide-m-requires
 wide-m-requires c = c.requires.0
@@ -88,4 +88,4 @@ pub returns : goal.returns
 returns c = let r = c.requires.0 in
     let is = result c in
     whole refl (rw is (widened_words r (rw (sym c.wide-m.ensures) c.without_carries.ensures.0)))
-    (widen_ran _ _ _ _ (omega (arith, c.requires.1.least)) (fit (goal.at.returns c).After-alpha-t) (ap (λ j. j + 1) c.alpha-t.ensures) _ (gave (carried (goal.at.returns c).After-carries_by_q-carries) (not-false _ c.if-not-carries.false)) _ (middle (goal.at.returns c).After-without_carries) is)
+    (widen_ran _ _ _ _ (omega (arith, c.requires.1.least)) (fit (goal.at.returns c).After-alpha-t) (ap (λ j. j + 1) c.alpha-t.ensures) _ (gave (carried (goal.at.returns c).After-carries_by_q-carries) c.if-not-carries.false) _ (middle (goal.at.returns c).After-without_carries) is)

@@ -3,7 +3,7 @@ use native.Mathlib.Omega.{arith}
 use Rattle.shares.proofs.ArraysLaws.{gave, stopped, whole, cut_off}
 use Rattle.shares.proofs.LoopLaws.{looping_done}
 use Rattle.sizes.proofs.ZeroSteps.{zero_start, zero_ended, scalar_below, zero_held, zero_stopped, zero_more}
-use borrow.Author.Tests.{not-true, not-false}
+use borrow.Author.Tests.{not-false}
 use Rattle.zero.proofs.zero_test.Goals as goal
 
 pub loop-init : goal.loop-init
@@ -21,10 +21,10 @@ refresh-s-requires c = zero_held c.loop.invariant c.loop-test.true _ c.draw.ensu
 
 pub returns-then-not-s : goal.returns-then-not-s
 returns-then-not-s c = cut_off c.ended-then-not-s.ensures
-    (zero_stopped c.loop.invariant c.loop-test.true _ c.draw.ensures c.in-Got.is c.scaled.ensures (stopped c.refresh-s.ensures (not-true _ c.if-not-s.true)))
+    (zero_stopped c.loop.invariant c.loop-test.true _ c.draw.ensures c.in-Got.is c.scaled.ensures (stopped c.refresh-s.ensures c.if-not-s.true))
 
 pub loop-preserved : goal.loop-preserved
-loop-preserved c = zero_more c.loop.invariant c.loop-test.true _ c.draw.ensures c.in-Got.is c.scaled.ensures (gave c.refresh-s.ensures (not-false _ c.if-not-s.false))
+loop-preserved c = zero_more c.loop.invariant c.loop-test.true _ c.draw.ensures c.in-Got.is c.scaled.ensures (gave c.refresh-s.ensures c.if-not-s.false)
     (c.refresh-s.ensures.below (not-false _ c.if-not-s.false))
 
 pub returns : goal.returns

@@ -3,7 +3,7 @@ use Prim.Native.Nat.{ℕ, suc, ◌-◌, ◌^◌}
 use native.Mathlib.Omega.{arith}
 use lib.ListN.{length, get_or, take, drop}
 use lib.Pow.{pow_pos}
-use borrow.Author.Tests.{not-true, not-false}
+use borrow.Author.Tests.{not-false}
 use Rattle.numbers.specs.Lists.{Words}
 use Rattle.numbers.proofs.WordsLaws.{words_at}
 use Rattle.tape.specs.Tape.{ran}
@@ -29,7 +29,7 @@ fresh_words t c = c.refresh_nine-refreshed.ensures.below (not-false _ c.if-not-r
 gave_fresh : (t : ℕ) (c : After-u_of-u t) →
     let a = c.args in
     run (refresh (boolean a.k) (take a.s a.shares)) a.tape.now a.cursor ≡ ran (take a.s c.refresh_nine-refreshed.result.words) c.refresh_nine-refreshed.result.cursor
-gave_fresh t c = gave c.refresh_nine-refreshed.ensures (not-false _ c.if-not-refreshed.false)
+gave_fresh t c = gave c.refresh_nine-refreshed.ensures c.if-not-refreshed.false
 
 u_below : (t : ℕ) (c : After-u_of-u t) → Words 9 (2 ^ c.args.k) c.u_of-u.result
 u_below t c = u_words (pow_pos _) (fresh_words t c) c.u_of-u.ensures
@@ -53,7 +53,7 @@ gave_u : (t : ℕ) (c : After-z_of t) →
     let a = c.args in
     run (steps.rule a.k (a.s - 1 - 2) (drop 1 (take a.s c.refresh_nine-refreshed.result.words))) a.tape.now c.refresh_nine-refreshed.result.cursor
     ≡ ran (take (a.s - 1 - 1) c.rule-of_u.result.words) c.rule-of_u.result.cursor
-gave_u t c = same_shares _ _ _ _ (us t (goal.at.After-z_of t c).After-u_of-u) (gave c.rule-of_u.ensures (not-false _ c.if-not-of_u.false))
+gave_u t c = same_shares _ _ _ _ (us t (goal.at.After-z_of t c).After-u_of-u) (gave c.rule-of_u.ensures c.if-not-of_u.false)
 
 pub of_three-requires : goal.of_three-requires
 of_three-requires t c = (c.requires.0, three_asked _ c.requires.2 c.if-s-eq3.true)
@@ -70,7 +70,7 @@ returns-then-s-eq4 t c = rule_four _ _ _ _ c.if-s-eq4.true c.of_four.ensures
 pub returns-then-not-refreshed : goal.returns-then-not-refreshed
 returns-then-not-refreshed t c =
     let f = fewer t (goal.at.returns-then-not-refreshed t c).After-refresh_nine-refreshed in
-    cut_off c.ended.ensures (refresh_ended _ f _ _ _ (stopped c.refresh_nine-refreshed.ensures (not-true _ c.if-not-refreshed.true)))
+    cut_off c.ended.ensures (refresh_ended _ f _ _ _ (stopped c.refresh_nine-refreshed.ensures c.if-not-refreshed.true))
 
 pub rule-of_u-requires : goal.rule-of_u-requires
 rule-of_u-requires t c =
@@ -82,7 +82,7 @@ returns-then-not-of_u t c =
     let f = fewer t (goal.at.returns-then-not-of_u t c).After-refresh_nine-refreshed in
     let o = (goal.at.returns-then-not-of_u t c).After-u_of-u in
     cut_off c.ended-then-not-of_u.ensures
-    (u_ended _ f _ _ _ _ (gave_fresh t o) (same_shares _ _ _ _ (us t o) (stopped c.rule-of_u.ensures (not-true _ c.if-not-of_u.true))))
+    (u_ended _ f _ _ _ _ (gave_fresh t o) (same_shares _ _ _ _ (us t o) (stopped c.rule-of_u.ensures c.if-not-of_u.true)))
 
 pub rule-of_z-requires : goal.rule-of_z-requires
 rule-of_z-requires t c =
@@ -95,7 +95,7 @@ returns-then-not-of_z t c =
     let o = (goal.at.returns-then-not-of_z t c).After-u_of-u in
     let z = (goal.at.returns-then-not-of_z t c).After-z_of in
     cut_off c.ended-then-not-of_z.ensures
-    (z_ended _ f _ _ _ _ (gave_fresh t o) (gave_u t z) (same_shares _ _ _ _ (zs t z) (stopped c.rule-of_z.ensures (not-true _ c.if-not-of_z.true))))
+    (z_ended _ f _ _ _ _ (gave_fresh t o) (gave_u t z) (same_shares _ _ _ _ (zs t z) (stopped c.rule-of_z.ensures c.if-not-of_z.true)))
 
 pub added-requires : goal.added-requires
 added-requires t c = (
@@ -112,5 +112,5 @@ returns t c =
     let o = (goal.at.returns t c).After-u_of-u in
     let z = (goal.at.returns t c).After-z_of in
     whole refl c.added.ensures.0
-    (rule_gave _ f _ _ _ _ (gave_fresh t o) (gave_u t z) (same_shares _ _ _ _ (zs t z) (gave c.rule-of_z.ensures (not-false _ c.if-not-of_z.false)))
+    (rule_gave _ f _ _ _ _ (gave_fresh t o) (gave_u t z) (same_shares _ _ _ _ (zs t z) (gave c.rule-of_z.ensures c.if-not-of_z.false))
     (results_added _ _ _ _ c.requires.1 c.added.ensures.1))

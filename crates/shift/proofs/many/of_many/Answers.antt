@@ -3,7 +3,7 @@ use Prim.Native.Nat.{ℕ, ◌*◌, ◌^◌, ◌<◌}
 use native.Mathlib.Omega.{arith}
 use Rattle.shares.proofs.ArraysLaws.{gave, stopped, whole, cut_off}
 use Rattle.halves.proofs.HalvingsLaws.{halved_fits, halved_start, halved_bits, halved_words, halved_gathered_words, halved_shares, halved_gathered, halved_held, halved_ended, halved_more}
-use borrow.Author.Tests.{not-true, not-false}
+use borrow.Author.Tests.{not-false}
 use Rattle.shift.proofs.many.of_many.Goals as goal
 
 pub power-requires : goal.power-requires
@@ -23,10 +23,10 @@ pub halve-s-requires : goal.halve-s-requires
 halve-s-requires c = let l = c.loop-b.invariant in (halved_held l c.loop-b-test.true, omega (arith, l.word))
 
 pub returns-then-not-s : goal.returns-then-not-s
-returns-then-not-s c = cut_off c.ended.ensures (halved_ended c.loop-b.invariant c.loop-b-test.true (stopped c.halve-s.ensures (not-true _ c.if-not-s.true)))
+returns-then-not-s c = cut_off c.ended.ensures (halved_ended c.loop-b.invariant c.loop-b-test.true (stopped c.halve-s.ensures c.if-not-s.true))
 
 pub loop-b-preserved : goal.loop-b-preserved
-loop-b-preserved c = halved_more c.loop-b.invariant c.loop-b-test.true (gave c.halve-s.ensures (not-false _ c.if-not-s.false)) (c.halve-s.ensures.below (not-false _ c.if-not-s.false))
+loop-b-preserved c = halved_more c.loop-b.invariant c.loop-b-test.true (gave c.halve-s.ensures c.if-not-s.false) (c.halve-s.ensures.below (not-false _ c.if-not-s.false))
     c.gathered-more.ensures
 
 pub with_bit-all-requires : goal.with_bit-all-requires

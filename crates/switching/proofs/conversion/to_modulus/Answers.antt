@@ -13,7 +13,7 @@ use Rattle.halves.specs.Carries.{raised_shift, carries}
 use Rattle.halves.proofs.CarrySteps.{floors-held, floors-take}
 use Rattle.masks.proofs.SwitchSteps.{quotient_small, quotient_is}
 use Rattle.masks.proofs.SwitchLaws.{convert_ended, carries_ended, switched}
-use borrow.Author.Tests.{not-true, not-false}
+use borrow.Author.Tests.{not-false}
 use Rattle.switching.proofs.conversion.to_modulus.Goals as goal
 use Rattle.switching.proofs.conversion.to_modulus.Goals.{After-alpha-a, After-raised_shift-carries, Else-not-converted}
 
@@ -59,7 +59,7 @@ to_arithmetic-converted-requires c = let p = c.requires in (short c, held_below 
 
 pub returns-then-not-converted : goal.returns-then-not-converted
 returns-then-not-converted c =
-    cut_off c.ended.ensures (convert_ended _ _ _ _ _ (fit (goal.at.returns-then-not-converted c).After-alpha-a) c.alpha-a.ensures (stopped c.to_arithmetic-converted.ensures (not-true _ c.if-not-converted.true)))
+    cut_off c.ended.ensures (convert_ended _ _ _ _ _ (fit (goal.at.returns-then-not-converted c).After-alpha-a) c.alpha-a.ensures (stopped c.to_arithmetic-converted.ensures c.if-not-converted.true))
 
 pub raised_shift-carries-requires : goal.raised_shift-carries-requires
 raised_shift-carries-requires c =
@@ -68,8 +68,8 @@ raised_shift-carries-requires c =
 
 pub returns-then-not-carries : goal.returns-then-not-carries
 returns-then-not-carries c =
-    cut_off c.ended-then-not-carries.ensures (carries_ended _ _ _ _ _ (fit (goal.at.returns-then-not-carries c).After-alpha-a) c.alpha-a.ensures (gave c.to_arithmetic-converted.ensures (not-false _ c.if-not-converted.false))
-    (stopped (carried (goal.at.returns-then-not-carries c).After-raised_shift-carries) (not-true _ c.if-not-carries.true)))
+    cut_off c.ended-then-not-carries.ensures (carries_ended _ _ _ _ _ (fit (goal.at.returns-then-not-carries c).After-alpha-a) c.alpha-a.ensures (gave c.to_arithmetic-converted.ensures c.if-not-converted.false)
+    (stopped (carried (goal.at.returns-then-not-carries c).After-raised_shift-carries) c.if-not-carries.true))
 
 pub without-requires : goal.without-requires
 without-requires c =
@@ -78,5 +78,5 @@ without-requires c =
 pub returns : goal.returns
 returns c =
     whole refl c.without.ensures.0
-    (switched _ _ _ _ _ (fit (goal.at.returns c).After-alpha-a) c.alpha-a.ensures (gave c.to_arithmetic-converted.ensures (not-false _ c.if-not-converted.false)) (gave (carried (goal.at.returns c).After-raised_shift-carries) (not-false _ c.if-not-carries.false))
+    (switched _ _ _ _ _ (fit (goal.at.returns c).After-alpha-a) c.alpha-a.ensures (gave c.to_arithmetic-converted.ensures c.if-not-converted.false) (gave (carried (goal.at.returns c).After-raised_shift-carries) c.if-not-carries.false)
     c.without.ensures.1)
