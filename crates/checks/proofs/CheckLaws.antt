@@ -3,7 +3,7 @@ use mathlib.Core.Path.{◌≡◌, refl, ap, subst, ◌∙◌}
 use mathlib.Core.List.{List, [], ◌∷◌}
 use mathlib.Core.Bool.{Bool, true, false}
 use Prim.Native.Nat.{ℕ, zero, suc, ◌+◌, ◌*◌, ◌%◌, ◌^◌, ◌≤◌, ◌<◌}
-use native.Mathlib.Nat.{le_of_suc-le-suc, one-mul, mod-eq_of_lt}
+use native.Mathlib.Nat.{le_of_suc-le-suc, one-mul, mod-eq_of_lt, mul-le-mul}
 use native.Mathlib.Omega.{arith}
 use native.Mathlib.Numerals.{add-one}
 use lib.ListN.{length, get_or, drop, drop_of_length-le}
@@ -81,6 +81,12 @@ module _ (n room words : ℕ) (in_range : Bool) (more : List (ℕ × Bool)) wher
   unfolding first_failing checks_of
   fails_1 e = rw e
 
+  pub fails_few : n < 2 → 1 ≡ first_failing (checks_of n room words in_range more)
+  fails_few h = fails_1 (inside_low 2 8 n h)
+
+  pub fails_many : 8 < n → 1 ≡ first_failing (checks_of n room words in_range more)
+  fails_many h = fails_1 (inside_high 2 8 n (omega arith) h)
+
   module _ (least : 2 ≤ n) (most : n ≤ 8) where
     pub fails_2 : (room ≡ words → ⊥) → 2 ≡ first_failing (checks_of n room words in_range more)
     unfolding first_failing checks_of
@@ -133,6 +139,15 @@ module _ (n room words : ℕ) (in_range : Bool) (more : List (ℕ × Bool)) wher
       go true true false = h
       go true false c = omega arith
       go false b c = omega arith
+
+-- the first three pass, and there is no more to check
+pub passes_3 : (n room words : ℕ) (in_range : Bool) → 2 ≤ n → n ≤ 8 → room ≡ words → in_range ≡ true → 0 ≡ first_failing (checks_of n room words in_range [])
+unfolding first_failing
+passes_3 n room words in_range least most fits e = fails_later n room words in_range [] least most fits e
+
+-- so many coefficients of so many shares are few words
+pub words_few : (coefficients n : ℕ) → coefficients ≤ 256 → n ≤ 8 → coefficients * n ≤ 2048
+words_few coefficients n h l = mul-le-mul h l
 
 -- one coefficient takes n words
 pub of_one : (n room : ℕ) (in_range : Bool) (more : List (ℕ × Bool)) {k : ℕ} → k ≡ first_failing (checks_of n room (1 * n) in_range more) → k ≡ first_failing (checks_of n room n in_range more)

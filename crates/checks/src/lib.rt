@@ -59,6 +59,7 @@ pub fn admit(set: u32, number: u32) -> Admitted
 
 // The number of the first of the checks 1 to 3 that fails, or 0: the share count, the room for so many coefficients, the parameters.
 // The product of coefficients and n is formed only once n is known to be small.
+#[tactic(auto, using(crate::proofs::CheckLaws::fails_few, crate::proofs::CheckLaws::fails_many, crate::proofs::CheckLaws::fails_2, crate::proofs::CheckLaws::fails_3, crate::proofs::CheckLaws::passes_3, crate::proofs::CheckLaws::words_few))]
 pub fn first_of_three(n: usize, coefficients: usize, room: usize, in_range: bool) -> u32
     requires { coefficients ≤ 256 }
     ensures { result ≡ first_failing (checks_of n room (coefficients * n) in_range []) }

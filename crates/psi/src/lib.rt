@@ -30,6 +30,7 @@ pub fn u_of(shares: [u32; 9]) -> [u32; 9]
 }
 
 // Z, of s shares that are x and then those of U.
+#[tactic(auto, using(crate::proofs::ZLaws::z_of_odd, crate::proofs::ZLaws::z_of_even))]
 pub fn z_of(x: u32, u: [u32; 9], s: usize, k: u32) -> [u32; 9]
     requires { k ≤ 31 }
     ensures { result ≡ z_of k s x u }
