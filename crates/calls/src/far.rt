@@ -1,51 +1,40 @@
-// Calls of the samplers with a stated share count far above the largest.
-use super::notes::noted;
-use super::{Tally, call_sampler};
+// Calls of a sampler with a stated share count far above the largest.
+use super::{Tally, Told};
+use gate::Answer;
 
 // Some are 0 or 2 in 8, 16 or 32 bits, or have the 256-fold of 0 or 2 in 64.
-fn count(i: u32) -> usize {
-    match i {
-        0 => 11,
-        1 => 256,
-        2 => 258,
-        3 => 65536,
-        4 => 65538,
-        5 => 4294967296,
-        6 => 4294967298,
-        7 => 72057594037927936,
-        8 => 72057594037927938,
-        _ => 18446744073709551615,
-    }
-}
+const COUNTS: [usize; 10] = [
+    11,
+    256,
+    258,
+    65536,
+    65538,
+    4294967296,
+    4294967298,
+    72057594037927936,
+    72057594037927938,
+    18446744073709551615,
+];
 
 // Some lengths are right for 0 or 2 shares.
-fn room_for(i: u32) -> usize {
-    match i {
-        0 => 0,
-        1 => 2,
-        2 => 512,
-        _ => 2560,
+const ROOMS: [usize; 4] = [0, 2, 512, 2560];
+
+fn at_count<F: Fn(&[u32], usize, u32, &mut [u32]) -> Answer>(sampler: F, n: usize, t: &mut Tally)
+    requires { F.IsAlwaysCallable sampler }
+{
+    for room in ROOMS {
+        let mut array = [7u32; 2560];
+        let told = sampler(&[0; 6], n, 44, &mut array[..room.min(2560)]);
+        t.note(Told::Answer(told), &array);
     }
 }
 
-fn lent(t: Tally, gadget: u32, n: usize, room: usize, out: &mut [u32]) -> Tally {
-    if out.len() < room {
-        return t;
-    }
-    let told = call_sampler(gadget, &[0, 0, 0, 0, 0, 0], n, 44, &mut out[..room]);
-    noted(t, told, out)
-}
-
-fn once(t: Tally, gadget: u32, n: usize, room: usize) -> Tally {
-    let mut out = [7u32; 2560];
-    lent(t, gadget, n, room, &mut out)
-}
-
-pub fn all_counts(gadget: u32) -> Tally {
+pub fn far_counts<F: Fn(&[u32], usize, u32, &mut [u32]) -> Answer>(sampler: F) -> Tally
+    requires { F.IsAlwaysCallable sampler }
+{
     let mut t = Tally::start();
-    for i in 0..40 {
-        let next = once(t, gadget, count(i / 4), room_for(i % 4));
-        t = next;
+    for n in COUNTS {
+        at_count(&sampler, n, &mut t);
     }
     t
 }

@@ -1,56 +1,77 @@
-// The calls of the public gadgets by their numbers, and what is kept of their answers.
+// The calls of the public gadgets, and what is kept of their answers.
 #![tactic(auto)]
 
 mod far;
-mod notes;
+mod tally;
 
 use conversions::{to_arithmetic, to_mod_q};
-pub use far::all_counts;
-use gate::Answer;
-pub use notes::{noted, noted_parts, noted_verdict};
-use pairs::Pair;
+use decomposes::decompose;
+pub use far::far_counts;
+use gate::{Answer, Decomposed, Judged};
+use judges::verdict;
+use pairs::{Gadget, Pair};
 use refreshes::{refresh, refresh_boolean};
 use samplers::{sample, sample_polynomial};
 use shifts::{shift, to_boolean};
+pub use tally::Tally;
 use widens::widen;
 
-// What is kept of the answers: how often each number came, and a checksum.
+// What a gadget answers.
 #[derive(Clone, Copy)]
-pub struct Tally {
-    pub counts: [u32; 6],
-    pub sum: u32,
-    // the words used in the last answer
-    pub used: usize,
+pub enum Told {
+    Answer(Answer),
+    Parts(Decomposed),
+    Verdict(Judged),
 }
 
-impl Tally {
-    pub fn start() -> Tally {
-        Tally {
-            counts: [0u32; 6],
-            sum: 0,
-            used: 0,
+impl Told {
+    pub fn number(self) -> u32 {
+        match self {
+            Told::Answer(told) => told.number,
+            Told::Parts(told) => told.number,
+            Told::Verdict(told) => told.number,
+        }
+    }
+
+    // The words used.
+    pub fn used(self) -> usize {
+        match self {
+            Told::Answer(told) => told.used,
+            Told::Parts(told) => told.used,
+            Told::Verdict(told) => told.used,
         }
     }
 }
 
-// A sampler has no shares to count, so it is told how many there are.
-fn call_sampler(gadget: u32, tape: &[u32], n: usize, set: u32, out: &mut [u32]) -> Answer {
-    match gadget {
-        7 => sample(tape, n, set, out),
-        _ => sample_polynomial(tape, n, set, out),
-    }
+// A call, on whatever tape. Of the shares a sampler is given the count alone.
+#[derive(Clone, Copy)]
+pub struct Call<'a> {
+    pub gadget: Gadget,
+    pub p: Pair,
+    pub shares: &'a [u32],
+    // how many words the output slice has
+    pub room: usize,
 }
 
-// Of the shares a sampler is given the count alone. Decompose and the verdict are not here, since they answer more.
-pub fn call(gadget: u32, shares: &[u32], tape: &[u32], p: Pair, out: &mut [u32]) -> Answer {
-    match gadget {
-        1 => refresh(shares, tape, p.first, out),
-        2 => refresh_boolean(shares, tape, p.first, out),
-        3 => shift(shares, tape, p.first, p.second, out),
-        4 => to_boolean(shares, tape, p.first, out),
-        5 => to_arithmetic(shares, tape, p.first, out),
-        6 => to_mod_q(shares, tape, p.first, out),
-        9 => widen(shares, tape, p.first, p.second, out),
-        _ => call_sampler(gadget, tape, shares.len(), p.first, out),
+impl Call<'_> {
+    // The output slice is the beginning of the array, and does not go beyond it. The verdict has none.
+    pub fn told(self, tape: &[u32], array: &mut [u32]) -> Told {
+        let room = self.room.min(array.len());
+        let out = &mut array[..room];
+        let shares = self.shares;
+        let p = self.p;
+        Told::Answer(match self.gadget {
+            Gadget::Refresh => refresh(shares, tape, p.first, out),
+            Gadget::RefreshBoolean => refresh_boolean(shares, tape, p.first, out),
+            Gadget::Shift => shift(shares, tape, p.first, p.second, out),
+            Gadget::ToBoolean => to_boolean(shares, tape, p.first, out),
+            Gadget::ToArithmetic => to_arithmetic(shares, tape, p.first, out),
+            Gadget::ToModQ => to_mod_q(shares, tape, p.first, out),
+            Gadget::Sample => sample(tape, shares.len(), p.first, out),
+            Gadget::SamplePolynomial => sample_polynomial(tape, shares.len(), p.first, out),
+            Gadget::Widen => widen(shares, tape, p.first, p.second, out),
+            Gadget::Decompose => return Told::Parts(decompose(shares, tape, p.first, out)),
+            Gadget::Verdict => return Told::Verdict(verdict(shares, tape, p.first, p.second)),
+        })
     }
 }

@@ -13,6 +13,7 @@ use first::add_to_first;
 use params::Params;
 use shares::Shared;
 use shift::shift_by;
+use std::array;
 use tape::Cursor;
 use words::power;
 
@@ -28,11 +29,7 @@ fn floors_by_q(shares: [u32; Params::MOST], c: u32) -> [u32; Params::MOST]
     requires { Words 8 q shares }
     ensures { result ≡ along (λ i x. x * c / q) shares }
 {
-    let mut words = shares;
-    for i in 0..Params::MOST {
-        words[i] = floor_by_q(words[i], c);
-    }
-    words
+    array::from_fn(|i| floor_by_q(shares[i], c))
 }
 
 // n - 1 added to the first of the floors, and the shift by t, from 2^t·m to m.
@@ -43,7 +40,7 @@ pub fn raised_shift(
     t: u32,
     cursor: Cursor,
     tape: &[u32],
-) -> Shared
+) -> Option<Shared>
     requires { (t ≤ 31) × (2 ≤ m) × (2 ^ t * m < 2 ^ 32) × (n ≤ 2 ^ t * m) × Held 8 n (2 ^ t * m) floors }
     ensures { Gave n m result (run (raised_shift m t (take n floors)) tape.now cursor) }
 {
@@ -60,7 +57,7 @@ pub fn carries_by_q(
     c: u32,
     cursor: Cursor,
     tape: &[u32],
-) -> Shared
+) -> Option<Shared>
     requires { (t ≤ 31) × (2 ≤ m) × (2 ^ t * m < 2 ^ 32) × (n ≤ 2 ^ t * m) × (c ≤ 2 ^ t * m) × Held 8 n q shares }
     ensures { Gave n m result (run (carries m t c q (take n shares)) tape.now cursor) }
 {

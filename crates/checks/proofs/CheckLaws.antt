@@ -1,15 +1,8 @@
 -- Laws of the checks: what the code's tests say of them, and what is known where all checks passed.
-use mathlib.Core.Path.{◌≡◌, refl, ap, subst, ◌∙◌}
-use mathlib.Core.List.{List, [], ◌∷◌}
-use mathlib.Core.Bool.{Bool, true, false}
-use Prim.Native.Nat.{ℕ, zero, suc, ◌+◌, ◌*◌, ◌%◌, ◌^◌, ◌≤◌, ◌<◌}
-use native.Mathlib.Nat.{le_of_suc-le-suc, one-mul, mod-eq_of_lt, mul-le-mul}
-use native.Mathlib.Omega.{arith}
-use native.Mathlib.Numerals.{add-one}
-use lib.ListN.{length, get_or, drop, drop_of_length-le}
-use lib.Seq.{drop-cons}
-use lib.Dec.{ltb, leb, eqb}
-use borrow.Author.Tests.{lt-ltb, le-ltb, le-leb, lt-leb, eq-eqb, ne_eqb, leb-true, ltb-true, eqb-true}
+use Rattle.std.proofs.Common.{◌≡◌, List, [], ◌∷◌, Bool, true, false, ℕ, zero, suc, ◌%◌, ◌^◌, ◌≤◌, ◌<◌, length, get_or, ltb, leb, eqb, nat_lt, refl, sym, ap, ◌∙◌, arith, le_of_suc-le-suc, mod-eq_of_lt, lt-ltb, le-leb, eq-eqb, ne_eqb, leb-true, ltb-true, eqb-true}
+use Rattle.std.proofs.lemmas.Grind.{common_steps}
+use Rattle.std.specs.List.{list_all}
+use borrow.Author.Tests.{lt-leb}
 use Rattle.numbers.specs.Tests.{both, pick}
 use Rattle.numbers.specs.Lists.{Words}
 use Rattle.checks.specs.Checks.{inside, all_below, first_failing, checks_of, Checked, checks}
@@ -41,18 +34,11 @@ module _ (low high x : ℕ) where
   inside_out e = (leb-true low x (both_left (leb low x) (leb x high) e), leb-true x high (both_right (leb low x) (leb x high) e))
 
 -- ---- every word below M
-module _ (M : ℕ) (xs : List ℕ) (i : ℕ) where
-  pub below_end : length xs ≤ i → true ≡ all_below M (drop i xs)
-  unfolding all_below
-  below_end h = rw drop_of_length-le
-
-  pub below_stop : i < length xs → M ≤ get_or xs i 0 → false ≡ all_below M (drop i xs)
-  unfolding all_below
-  below_stop h l = rw (drop-cons xs i 0 h, le-ltb (get_or xs i 0) M l)
-
-  pub below_more : i < length xs → get_or xs i 0 < M → all_below M (drop (i + 1) xs) ≡ all_below M (drop i xs)
-  unfolding all_below
-  below_more h l = rw (drop-cons xs i 0 h, lt-ltb (get_or xs i 0) M l, add-one i)
+-- as std's test of each element says it
+pub all_below_is : (M : ℕ) (xs : List ℕ) → list_all (λ x. nat_lt x M) xs ≡ all_below M xs
+unfolding all_below
+all_below_is M [] = refl
+all_below_is M (x ∷ xs) = let h = all_below_is M xs in grind (arith, common_steps)
 
 pub below_words : (M : ℕ) (xs : List ℕ) → all_below M xs ≡ true → Words (length xs) M xs
 unfolding all_below
@@ -80,12 +66,6 @@ module _ (n room words : ℕ) (in_range : Bool) (more : List (ℕ × Bool)) wher
   pub fails_1 : inside 2 8 n ≡ false → 1 ≡ first_failing (checks_of n room words in_range more)
   unfolding first_failing checks_of
   fails_1 e = rw e
-
-  pub fails_few : n < 2 → 1 ≡ first_failing (checks_of n room words in_range more)
-  fails_few h = fails_1 (inside_low 2 8 n h)
-
-  pub fails_many : 8 < n → 1 ≡ first_failing (checks_of n room words in_range more)
-  fails_many h = fails_1 (inside_high 2 8 n (omega arith) h)
 
   module _ (least : 2 ≤ n) (most : n ≤ 8) where
     pub fails_2 : (room ≡ words → ⊥) → 2 ≡ first_failing (checks_of n room words in_range more)
@@ -118,17 +98,6 @@ module _ (n room words : ℕ) (in_range : Bool) (more : List (ℕ × Bool)) wher
       let (low, high) = inside_out 2 8 n c in
       record { least = low; most = high; fits = eqb-true room words s; range = r; later = h }
 
-  -- one of the first three fails, whatever is checked later
-  pub fails_as : {k : ℕ} → k ≡ first_failing (checks_of n room words in_range []) → ¬ (k ≡ 0) → k ≡ first_failing (checks_of n room words in_range more)
-  unfolding first_failing checks_of
-  fails_as e h = go (inside 2 8 n) (eqb room words) in_range e h
-    where
-      go : {k : ℕ} (a b c : Bool) → k ≡ pick a (pick b (pick c 0 3) 2) 1 → ¬ (k ≡ 0) → k ≡ pick a (pick b (pick c (first_failing more) 3) 2) 1
-      go true true true e h = absurd (h e)
-      go true true false e h = e
-      go true false c e h = e
-      go false b c e h = e
-
   -- no number is above 3 but those of what is checked later
   pub number_most : (top : ℕ) → 3 ≤ top → first_failing more ≤ top → first_failing (checks_of n room words in_range more) ≤ top
   unfolding first_failing checks_of
@@ -139,19 +108,6 @@ module _ (n room words : ℕ) (in_range : Bool) (more : List (ℕ × Bool)) wher
       go true true false = h
       go true false c = omega arith
       go false b c = omega arith
-
--- the first three pass, and there is no more to check
-pub passes_3 : (n room words : ℕ) (in_range : Bool) → 2 ≤ n → n ≤ 8 → room ≡ words → in_range ≡ true → 0 ≡ first_failing (checks_of n room words in_range [])
-unfolding first_failing
-passes_3 n room words in_range least most fits e = fails_later n room words in_range [] least most fits e
-
--- so many coefficients of so many shares are few words
-pub words_few : (coefficients n : ℕ) → coefficients ≤ 256 → n ≤ 8 → coefficients * n ≤ 2048
-words_few coefficients n h l = mul-le-mul h l
-
--- one coefficient takes n words
-pub of_one : (n room : ℕ) (in_range : Bool) (more : List (ℕ × Bool)) {k : ℕ} → k ≡ first_failing (checks_of n room (1 * n) in_range more) → k ≡ first_failing (checks_of n room n in_range more)
-of_one n room in_range more e = rw (one-mul n) at e
 
 -- ---- and of the shares
 module _ (M : ℕ) (shares : List ℕ) where
@@ -189,21 +145,25 @@ bound_of_width : {k r : ℕ} → r ≡ 2 ^ (k % 32) → k ≤ 31 → r ≡ 2 ^ k
 bound_of_width e h = e ∙ ap (λ (j : ℕ). 2 ^ j) (mod-eq_of_lt (omega arith))
 
 -- what was checked, of a range that was computed
-pub range_checked : (n room words : ℕ) (more : List (ℕ × Bool)) {k : ℕ} {a b : Bool} → k ≡ first_failing (checks_of n room words a more) → a ≡ b →
-    k ≡ first_failing (checks_of n room words b more)
-range_checked n room words more e f = e ∙ ap (λ (c : Bool). first_failing (checks_of n room words c more)) f
+pub range_checked : (n room words : ℕ) (more : List (ℕ × Bool)) {k : ℕ} {a b : Bool} → first_failing (checks_of n room words a more) ≡ k → a ≡ b →
+    first_failing (checks_of n room words b more) ≡ k
+range_checked n room words more e f = ap (λ (c : Bool). first_failing (checks_of n room words c more)) (sym f) ∙ e
 
 -- what was checked, of a range and a bound that were computed; the bound counts only where the parameters are in range
-pub checked : (shares : List ℕ) (room : ℕ) {k : ℕ} {a b : Bool} {M N : ℕ} → k ≡ first_failing (checks shares room a M) → a ≡ b → (b ≡ true → M ≡ N) →
-    k ≡ first_failing (checks shares room b N)
+pub checked : (shares : List ℕ) (room : ℕ) {k : ℕ} {a b : Bool} {M N : ℕ} → first_failing (checks shares room a M) ≡ k → a ≡ b → (b ≡ true → M ≡ N) →
+    first_failing (checks shares room b N) ≡ k
 unfolding first_failing checks checks_of
-checked shares room {k} {a} {b} {M} {N} e f h = subst (λ (c : Bool). k ≡ first_failing (checks shares room c M)) f e ∙ go b h
+checked shares room {k} {a} {b} {M} {N} e f h = go b h ∙ ap (λ (c : Bool). first_failing (checks shares room c M)) (sym f) ∙ e
   where
-    go : (c : Bool) → (c ≡ true → M ≡ N) → first_failing (checks shares room c M) ≡ first_failing (checks shares room c N)
+    go : (c : Bool) → (c ≡ true → M ≡ N) → first_failing (checks shares room c N) ≡ first_failing (checks shares room c M)
     go true g = rw (g refl)
     go false g = refl
 
 -- the same of a width from 1 to high, and of 2 to it
-pub checked_width : (shares : List ℕ) (room : ℕ) {r : ℕ} {a : Bool} {M : ℕ} (high k : ℕ) → high ≤ 31 → r ≡ first_failing (checks shares room a M) → a ≡ inside 1 high k →
-    M ≡ 2 ^ (k % 32) → r ≡ first_failing (checks shares room (inside 1 high k) (2 ^ k))
+pub checked_width : (shares : List ℕ) (room : ℕ) {r : ℕ} {a : Bool} {M : ℕ} (high k : ℕ) → high ≤ 31 → first_failing (checks shares room a M) ≡ r → a ≡ inside 1 high k →
+    M ≡ 2 ^ (k % 32) → first_failing (checks shares room (inside 1 high k) (2 ^ k)) ≡ r
 checked_width shares room high k h e f g = checked shares room e f (λ t. let (low, most) = inside_out 1 high k t in bound_of_width g (omega arith))
+
+-- of the shares alone
+pub alone : {shares : List ℕ} {room M : ℕ} → Checked shares room M → Checked shares (length shares) M
+alone c = record { least = c.least; most = c.most; below = c.below; fits = refl }

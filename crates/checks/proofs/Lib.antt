@@ -1,2 +1,2 @@
 pub mod CheckLaws
-pub mod AdmitLaws
+pub mod AdmissionLaws

@@ -1,28 +1,42 @@
-// The checks before a gadget runs, in their order, and the set that they admit.
+// The checks before a gadget runs, in their order, and why one refuses a call.
 #![tactic(auto)]
 
-ghost use Rattle.std.specs.Prelude.{◌≡◌, true, [], ◌*◌, ◌%◌, ◌^◌, ◌≤◌};
-ghost use Rattle.params.specs.Sets.{known};
-ghost use Rattle.checks.specs.Checks.{inside, all_below, first_failing, checks_of, checks};
-ghost use Rattle.checks.specs.Admission.{admitted_stands_for, admission};
+ghost use Rattle.std.specs.Prelude.{◌≡◌, [], ◌*◌, ◌%◌, ◌^◌, ◌≤◌, is_some, IfSome};
+ghost use Rattle.checks.specs.Checks.{inside, all_below, checks_of, checks};
+ghost use Rattle.checks.specs.Admission.{refusal_number, Admits};
 
-use params::{Choice, Params};
+use params::Params;
 use words::power;
 
-// What the checks answer, of a gadget that goes by a parameter set: the set, or the number of the first check that fails.
-#[derive(Clone, Copy)]
-pub enum Admitted {
-    Set(Params),
-    Refused(u32),
+// Why a call is refused, with the numbers that the caller is told.
+#[derive(Clone, Copy, PartialEq, Eq)]
+pub enum Refusal {
+    ShareCount = 1,
+    Room = 2,
+    Parameters = 3,
+    Share = 4,
+    TapeEnded = 5,
 }
 
-pub fn inside(low: u32, high: u32, x: u32) -> bool
-    ensures { result ≡ inside low high x }
-{
-    if x < low {
-        return false;
+impl From<Refusal> for u32 {
+    ghost from_gives = { λ refusal number. number ≡ refusal_number refusal };
+
+    fn from(refusal: Refusal) -> u32 {
+        refusal as u32
     }
-    x <= high
+}
+
+// The number, where it is from low to high.
+#[tactic(auto, unfolding(crate::specs::Checks::inside))]
+pub fn inside(low: u32, high: u32, x: u32) -> Option<u32>
+    ensures found { is_some result ≡ inside low high x }
+    ensures same { IfSome result (λ y. y ≡ x) }
+{
+    if (low..=high).contains(&x) {
+        Some(x)
+    } else {
+        None
+    }
 }
 
 // What shares of width k, or modulo 2^k, are below, for k up to 31; any other k is refused before a share is looked at.
@@ -35,57 +49,38 @@ pub fn width_bound(k: u32) -> u32
 fn all_below(shares: &[u32], m: u32) -> bool
     ensures { result ≡ all_below m shares.now }
 {
-    for i in 0..shares.len() {
-        if m <= shares[i] {
-            return false;
-        }
-    }
-    true
+    shares.iter().all(|x| *x < m)
 }
 
-// The set, where no check has failed. An unknown one has failed its check.
-pub fn admit(set: u32, number: u32) -> Admitted
-    requires { number ≡ 0 → known set ≡ true }
-    ensures { admitted_stands_for result ≡ admission number set }
-{
-    if number != 0 {
-        return Admitted::Refused(number);
-    }
-    let Choice::Set(p) = Params::of_set(set) else {
-        return Admitted::Refused(3);
-    };
-    Admitted::Set(p)
-}
-
-// The number of the first of the checks 1 to 3 that fails, or 0: the share count, the room for so many coefficients, the parameters.
+// The checks 1 to 3: the share count, the room for so many coefficients, and that something was found in the parameters' range, which is then handed on.
 // The product of coefficients and n is formed only once n is known to be small.
-#[tactic(auto, using(crate::proofs::CheckLaws::fails_few, crate::proofs::CheckLaws::fails_many, crate::proofs::CheckLaws::fails_2, crate::proofs::CheckLaws::fails_3, crate::proofs::CheckLaws::passes_3, crate::proofs::CheckLaws::words_few))]
-pub fn first_of_three(n: usize, coefficients: usize, room: usize, in_range: bool) -> u32
+#[tactic(auto, unfolding(crate::specs::Checks::first_failing, crate::specs::Checks::checks_of, crate::specs::Checks::inside))]
+pub fn counted<T: Copy>(
+    n: usize,
+    coefficients: usize,
+    room: usize,
+    found: Option<T>,
+) -> Result<T, Refusal>
     requires { coefficients ≤ 256 }
-    ensures { result ≡ first_failing (checks_of n room (coefficients * n) in_range []) }
+    ensures { Admits (checks_of n room (coefficients * n) (is_some found) []) found result }
 {
-    if n < 2 {
-        return 1;
-    }
-    if Params::MOST < n {
-        return 1;
+    if !(2..=Params::MOST).contains(&n) {
+        return Err(Refusal::ShareCount);
     }
     if room != coefficients * n {
-        return 2;
+        return Err(Refusal::Room);
     }
-    if in_range { 0 } else { 3 }
+    found.ok_or(Refusal::Parameters)
 }
 
 // The same of all checks on shares, of which none is looked at before the parameters are found to be in range.
-pub fn first_failing(shares: &[u32], room: usize, in_range: bool, m: u32) -> u32
-    ensures { result ≡ first_failing (checks shares.now room in_range m) }
+#[tactic(auto, unfolding(crate::specs::Checks::first_failing, crate::specs::Checks::checks_of, crate::specs::Checks::checks))]
+pub fn checked<T: Copy>(shares: &[u32], room: usize, found: Option<T>, m: u32) -> Result<T, Refusal>
+    ensures { Admits (checks shares.now room (is_some found) m) found result }
 {
-    let number = first_of_three(shares.len(), 1, room, in_range);
-    if number != 0 {
-        return number;
-    }
+    let t = counted(shares.len(), 1, room, found)?;
     if !all_below(shares, m) {
-        return 4;
+        return Err(Refusal::Share);
     }
-    0
+    Ok(t)
 }

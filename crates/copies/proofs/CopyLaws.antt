@@ -5,24 +5,7 @@ use Prim.Native.Nat.{ℕ, ◌+◌, ◌≤◌, ◌<◌}
 use native.Mathlib.Omega.{arith}
 use native.Mathlib.Decide.{ℕ_discrete}
 use lib.ListN.{length, get_or, set, take, length-set}
-use lib.Seq.{length-take-le, get_or-take, get_or-set_same, get_or-set_other}
-use Rattle.numbers.proofs.WordsLaws.{words_at}
-use Rattle.numbers.proofs.AlongLaws.{Along, along_is}
-use Rattle.shares.specs.Arrays.{Copied}
-
--- lists of one length with the same words are the same
-same_words : (xs ys : List ℕ) → length ys ≡ length xs → ((j : ℕ) → j < length xs → get_or ys j 0 ≡ get_or xs j 0) → ys ≡ xs
-same_words xs ys l h = along_is (λ i x. x) xs ys l h ∙ sym (along_is (λ i x. x) xs xs refl (λ j k. refl))
-
--- each place has the word of xs there, or 0
-pub copied : {xs zeros words : List ℕ} {i : ℕ} → length xs ≤ 8 → Along 8 (λ j x. get_or xs j 0) zeros i words → 8 ≤ i → Copied 8 xs words
-copied {xs} {zeros} {words} h a l =
-    record {
-      first =
-          same_words xs (take (length xs) words) (length-take-le (length xs) words (omega (arith, a.kept)))
-          (λ j k. get_or-take (length xs) words j 0 k ∙ a.before j (omega arith));
-      rest = λ M k w. record { size = a.kept; below = λ j m. rw (a.before j (omega arith)) (words_at k w j) };
-    }
+use lib.Seq.{length-take-le, get_or-take, get_or-set_same, get_or-set_other, ext_get_or}
 
 -- at turn i, the places before i have the words that are written, as far as there are places
 pub record Writing (words out₀ : List ℕ) (i : ℕ) (out : List ℕ) : Type 0 where
@@ -41,8 +24,7 @@ module _ {words out₀ : List ℕ} {i : ℕ} {out : List ℕ} (a : Writing words
       go j h l (no n) = get_or-set_other out i j (get_or words i 0) 0 n ∙ a.before j (omega (arith, n)) l
 
   pub writing_all : length out₀ ≤ i → length out₀ ≤ length words → out ≡ take (length out₀) words
-  writing_all h k =
-      same_words (take (length out₀) words) out (a.kept ∙ sym size) (λ j l. go j (omega (arith, size)))
+  writing_all h k = ext_get_or 0 out (take (length out₀) words) (a.kept ∙ sym size) (λ j l. go j (omega (arith, a.kept)))
     where
       size : length (take (length out₀) words) ≡ length out₀
       size = length-take-le (length out₀) words k

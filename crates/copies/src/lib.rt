@@ -5,12 +5,13 @@ ghost use Rattle.std.specs.Prelude.{◌≡◌, ◌≤◌, length, get_or, set, t
 ghost use Rattle.shares.specs.Arrays.{Copied};
 
 use params::Params;
+use std::array;
 
 // The word at place i, or 0 after the last.
 fn word_at(shares: &[u32], i: usize) -> u32
     ensures { result ≡ get_or shares.now i 0 }
 {
-    if i < shares.len() { shares[i] } else { 0 }
+    shares.get(i).copied().unwrap_or(0)
 }
 
 // Both copies go through all eight places, so that the compiler keeps the words in registers: a copy of n words is a call, and an array that is
@@ -19,11 +20,7 @@ pub fn copy_in(shares: &[u32]) -> [u32; Params::MOST]
     requires { length shares.now ≤ 8 }
     ensures { Copied 8 shares.now result }
 {
-    let mut words = [0u32; Params::MOST];
-    for i in 0..Params::MOST {
-        words[i] = word_at(shares, i);
-    }
-    words
+    array::from_fn(|i| word_at(shares, i))
 }
 
 // A word into place i, if there is one.
@@ -39,15 +36,13 @@ pub fn copy_out(words: [u32; Params::MOST], out: &mut [u32])
     requires { length out.old ≤ 8 }
     ensures { out.new ≡ take (length out.old) words }
 {
-    for i in 0..Params::MOST {
-        put(words[i], i, out);
+    for (i, x) in words.iter().enumerate() {
+        put(*x, i, out);
     }
 }
 
 pub fn clear(out: &mut [u32])
     ensures { out.new ≡ replicate (length out.old) 0 }
 {
-    for i in 0..out.len() {
-        out[i] = 0;
-    }
+    out.fill(0);
 }

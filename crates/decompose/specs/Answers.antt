@@ -1,10 +1,9 @@
--- What the answer of the opening, `High`, stands for.
-use Rattle.std.specs.Prelude.{ℕ}
+-- What the answer of the opening stands for.
+use Rattle.std.specs.Prelude.{ℕ, Option, Some, None}
+use Rattle.tape.specs.declared.Cursor.{Cursor}
 use Rattle.tape.specs.Tape.{Ran, ended, ran}
-use Rattle.decompose.specs.declared.High.{High}
-use Rattle.decompose.specs.declared.High.TheVariants.{Opened, Ended}
 
 -- the high part and the place of the next word, or that the tape has ended
-unfoldable pub high_stands_for : High → Ran ℕ
-high_stands_for (Opened high c) = ran high c
-high_stands_for Ended = ended
+abbrev pub high_stands_for : Option (ℕ × Cursor) → Ran ℕ
+high_stands_for (Some d) = ran d.0 d.1
+high_stands_for None = ended

@@ -1,5 +1,7 @@
 -- What has to be shown of a call; demands 1 and 2 follow from this alone. And the checks that all gadgets make first.
-use mathlib.Core.Path.{◌≡◌, refl}
+use mathlib.Core.Path.{◌≡◌, refl, ap, ◌∙◌}
+use Rattle.std.proofs.Common.{Option, is_some}
+use Rattle.params.specs.declared.Bounds.{Bounds}
 use mathlib.Core.Bool.{Bool, true, false}
 use mathlib.Core.List.{List}
 use Prim.Native.Nat.{ℕ, ◌^◌, ◌≤◌, ◌<◌}
@@ -7,15 +9,16 @@ use native.Mathlib.Omega.{arith}
 use lib.ListN.{length}
 use lib.Pow.{pow_pos, pow_mono}
 use Rattle.params.specs.Laws.{KindLaws}
-use Rattle.params.specs.Sets.{Known, known, kind_of}
-use Rattle.params.proofs.SetLaws.{set_laws, known_yes, known_so, kind_laws}
+use Rattle.params.specs.Sets.{Known, known, kind_of, bounds_of}
+use Rattle.params.proofs.SetLaws.{known_yes, known_so, kind_laws}
 use Rattle.tape.specs.declared.Cursor.{Cursor}
 use Rattle.tape.specs.Tape.{ran, start}
 use Rattle.draws.specs.Draws.{run}
 use Rattle.draws.proofs.Outcomes.{Plan}
-use Rattle.checks.specs.Checks.{inside, first_failing, checks_of}
+use Rattle.checks.specs.Checks.{inside, first_failing, checks_of, checks}
 use Rattle.gate.specs.Told.{Outcome, check_number}
-use Rattle.checks.proofs.CheckLaws.{both_left, both_right, inside_yes, inside_out, fails_1, fails_2, fails_3, fails_later}
+use Rattle.checks.proofs.CheckLaws.{both_left, both_right, inside_yes, inside_out, fails_1, fails_2, fails_3, fails_later, checked}
+use Rattle.checks.proofs.AdmissionLaws.{bounds_range}
 use Rattle.demands.specs.Gadgets.{kind_range}
 use Rattle.demands.specs.Call.{CallClaim, Counted, Valid}
 
@@ -70,7 +73,13 @@ kind_tested set kind =
     }
 
 pub laws_of : {set : ℕ} (kind : ℕ) → Known set → KindLaws (kind_of set kind)
-laws_of kind k = kind_laws (set_laws k) kind
+laws_of {set} kind k = kind_laws (kind_of set kind)
+
+-- what was checked of the bounds of a kind of a set, which are there where both are in range
+pub kind_checked : (shares : List ℕ) (room set kind M : ℕ) {o : Option Bounds} {k : ℕ} → o ≡ bounds_of set kind → first_failing (checks shares room (is_some o) M) ≡ k →
+    first_failing (checks shares room (kind_range set kind) M) ≡ k
+unfolding kind_range
+kind_checked shares room set kind M f e = checked shares room e (ap is_some f ∙ bounds_range set kind) (λ t. refl)
 
 -- a test that is not true is false
 pub not_so : (b : Bool) → ¬ (b ≡ true) → b ≡ false

@@ -45,12 +45,12 @@ decompose_steps set =
       opens_fields = λ x. refl;
       give = λ r n least most xs w.
           gives_as (λ o a. record { opened = a.opened; words = a.low.words; recombined = a.low.is })
-          (decompose_gives (set_laws r) n (sum xs % q) xs (omega arith) (record { words = w; is = refl }));
+          (decompose_gives (set_laws (params_of set)) n (sum xs % q) xs (omega arith) (record { words = w; is = refl }));
     }
 
 -- the plain function is FIPS 204's: its r0 is the remainder in −γ2 < r0 ≤ γ2
 pub decompose-remainder : {set : ℕ} → Known set → (r : ℕ) → Remainder (params_of set).gamma2 r
-decompose-remainder k r = remainder_is _ r (half_least (set_laws k))
+decompose-remainder {set} k r = remainder_is _ r (half_least (set_laws (params_of set)))
 
 pub decompose_demands : (set : ℕ) → Demands (decompose_claim set)
 decompose_demands set = demands (decompose_steps set)

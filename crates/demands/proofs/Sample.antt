@@ -31,7 +31,7 @@ use Rattle.demands.proofs.Unique.{unique_told}
 
 -- n up to 8 leaves room
 room : {set : ℕ} → Known set → (n : ℕ) → n ≤ 8 → (params_of set).mu + alpha n ≤ 32
-room k n most = omega (arith, mask_most (set_laws k), alpha_most n most)
+room {set} k n most = omega (arith, mask_most (set_laws (params_of set)), alpha_most n most)
 
 sampler_steps : (set : ℕ) → SamplerSteps (sampler_claim set)
 unfolding sampler
@@ -40,8 +40,8 @@ sampler_steps set =
       range = set_tested set;
       count = refl;
       short = λ out. refl;
-      planned = λ k n least most out e. (coefficient_gives (set_laws k) n (omega arith) (room k n most)).plan;
-      fills = λ k n least most tape out e r. coefficient_masks (set_laws k) n (omega arith) (room k n most) tape r;
+      planned = λ k n least most out e. (coefficient_gives (set_laws (params_of set)) n (omega arith) (room k n most)).plan;
+      fills = λ k n least most tape out e r. coefficient_masks (set_laws (params_of set)) n (omega arith) (room k n most) tape r;
     }
 
 polynomial_steps : (set : ℕ) → SamplerSteps (polynomial_claim set)
@@ -51,8 +51,8 @@ polynomial_steps set =
       range = set_tested set;
       count = refl;
       short = λ out. refl;
-      planned = λ k n least most out e. (polynomial_gives (set_laws k) n (omega arith) (room k n most) out e).plan;
-      fills = λ k n least most tape out e r. polynomial_masks (set_laws k) n (omega arith) (room k n most) tape out e r;
+      planned = λ k n least most out e. (polynomial_gives (set_laws (params_of set)) n (omega arith) (room k n most) out e).plan;
+      fills = λ k n least most tape out e r. polynomial_masks (set_laws (params_of set)) n (omega arith) (room k n most) tape out e r;
     }
 
 pub sample_demands : (set : ℕ) → SamplerDemands (sampler_claim set)

@@ -15,10 +15,7 @@ use Rattle.numbers.specs.Tests.{pick}
 use Rattle.numbers.specs.Bits.{bits_of}
 use Rattle.tape.specs.declared.Cursor.{Cursor}
 use Rattle.tape.specs.Tape.{ended, ran, taken, passed, low_bits, draw_at}
-use Rattle.tape.specs.declared.Draw.{Draw}
-use Rattle.tape.specs.declared.Draw.TheVariants.{Got}
-use Rattle.tape.specs.Answers.{draw_stands_for}
-use Rattle.tape.proofs.DrawLaws.{draw_end, draw_more, draw_hit, draw_skip, got}
+use Rattle.tape.proofs.DrawLaws.{draw_end, draw_more, draw_hit, draw_skip}
 use Rattle.draws.specs.Plan.{skip_from}
 use Rattle.draws.specs.Anew.{high_bits, with_low, Same}
 
@@ -124,6 +121,6 @@ drawn_anew {M} {tape} (skip {c = c} {q = q} h l d) u hu hb =
     let z : get_or (set tape (q.at - 1) x) c.at 0 ≡ get_or tape c.at 0 = get_or-set_other tape (q.at - 1) c.at x 0 (omega arith) in
     skip {c = c} (omega (arith, length-set tape (q.at - 1) x)) (rw z l) (drawn_anew d u hu hb)
 
--- what a call of draw gave is below its modulus
-pub got_below : (d : Draw) {r : ℕ} {c : Cursor} (tape : List ℕ) (p : Cursor) (M : ℕ) → draw_stands_for d ≡ draw_at tape p M → d ≡ Got r c → r < M
-got_below d tape p M e f = drawn_below (drawn (got d e f))
+-- what a draw gives is below its modulus
+pub draw_below : (tape : List ℕ) (p : Cursor) {M r : ℕ} {c : Cursor} → ran r c ≡ draw_at tape p M → r < M
+draw_below tape p e = drawn_below (drawn (sym e))

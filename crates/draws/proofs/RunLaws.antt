@@ -51,8 +51,8 @@ module _ {A B : Type 0} {whole : Draws B} (d : Draws A) (f : A → Draws B) (tap
   pub part_ran : {a : A} {q : Cursor} → run d tape p ≡ ran a q → run whole tape p ≡ run (f a) tape q
   part_ran {a} {q} h = ap (λ c. run c tape p) e ∙ bind_ran d f tape p a q h
 
-  pub part_ended : run d tape p ≡ ended → ended ≡ run whole tape p
-  part_ended h = sym (ap (λ c. run c tape p) e ∙ bind_ended d f tape p h)
+  pub part_ended : run d tape p ≡ ended → run whole tape p ≡ ended
+  part_ended h = ap (λ c. run c tape p) e ∙ bind_ended d f tape p h
 
 module _ {A : Type 0} (M : ℕ) (k : ℕ → Draws A) (tape : List ℕ) (p : Cursor) where
   pub run_draw : (r : ℕ) (q : Cursor) → draw_at tape p M ≡ ran r q → run (draw M k) tape p ≡ run (k r) tape q

@@ -1,6 +1,6 @@
 -- Laws of what a gadget tells.
 use mathlib.Core.Path.{◌≡◌, refl, sym, ap, ap₂, ◌∙◌}
-use mathlib.Core.Bool.{Bool, true}
+use mathlib.Core.Bool.{Bool}
 use mathlib.Core.List.{List, []}
 use Prim.Native.Nat.{ℕ, ◌*◌, ◌≤◌}
 use native.Mathlib.Omega.{arith}
@@ -9,14 +9,20 @@ use borrow.Author.Tests.{eq-eqb, ne_eqb}
 use Rattle.tape.specs.declared.Cursor.{Cursor}
 use Rattle.tape.specs.Tape.{Ran, ended, ran, start}
 use Rattle.draws.specs.Draws.{Draws, done, bind, after, next, run}
-use Rattle.draws.proofs.RunLaws.{bind_assoc, run_bind}
+use Rattle.draws.proofs.RunLaws.{bind_assoc, run_bind, bind_ran, bind_ended}
 use Rattle.shares.specs.Sharing.{Sharing, bound}
 use Rattle.shares.specs.Refresh.{refresh}
-use Rattle.shares.specs.declared.Shared.{Shared}
+use Rattle.shares.specs.declared.Row.{Row}
+use Rattle.numbers.specs.Lists.{Words}
+use Rattle.std.specs.Prelude.{Option}
 use Rattle.shares.specs.Arrays.{Held, Copied, shared, Gave}
+use Rattle.shares.proofs.ArraysLaws.{gave_is}
 use Rattle.checks.specs.Checks.{first_failing, checks_of, Checked, checks, leave_out}
 use Rattle.gate.specs.declared.Answer.{Answer}
-use Rattle.gate.specs.Told.{Told, refusal, Outcome, silent, opened_ran, silent_ran, ran_told, Call, check_number, told, stands_for}
+use Rattle.checks.specs.declared.Refusal.{Refusal}
+use Rattle.checks.specs.Admission.{refusal_number}
+use Rattle.checks.proofs.AdmissionLaws.{refusal_counts}
+use Rattle.gate.specs.Told.{Told, refusal, refused, Outcome, silent, opened_ran, silent_ran, ran_told, Call, check_number, told, stands_for}
 use Rattle.gate.specs.Gadget.{Gadget, silent_steps, silent_gadget, closed, call, tells}
 use Rattle.gate.specs.Sampler.{Sampler, sampler_call, samples}
 use Rattle.gate.specs.Judge.{Judge, judge_checks, judge_call, judges}
@@ -69,12 +75,15 @@ module _ (x : Ran (List ℕ)) (out : List ℕ) where
 pub by_check : (c : Call) (tape : List ℕ) {k : ℕ} {t : Told} → k ≡ check_number c → (k ≡ 0 → ⊥) → t ≡ refusal c.fields k c.out → t ≡ told c tape
 by_check c tape e n f = f ∙ ap (λ (m : ℕ). refusal c.fields m c.out) e ∙ sym (tells_refused c tape (λ z. n (e ∙ z)))
 
+by_refusal : (c : Call) (tape : List ℕ) (r : Refusal) {t : Told} → check_number c ≡ refusal_number r → t ≡ refused c.fields r c.out → t ≡ told c tape
+by_refusal c tape r e f = by_check c tape (sym e) (refusal_counts r) f
+
 -- a public gadget on shares keeps its promise: where a check failed, and where its steps and the closing refresh ran
 module _ (g : Gadget) (shares tape out : List ℕ) where
-  pub gadget_refused : {k : ℕ} {t : Told} → k ≡ first_failing (checks shares (length out) g.in_range (bound g.input)) → (k ≡ 0 → ⊥) →
-      t ≡ refusal g.fields k out → t ≡ tells g shares tape out
+  pub gadget_refused : (r : Refusal) {t : Told} → first_failing (checks shares (length out) g.in_range (bound g.input)) ≡ refusal_number r →
+      t ≡ refused g.fields r out → t ≡ tells g shares tape out
   unfolding check_number tells
-  gadget_refused e n f = by_check (call g shares out) tape e n f
+  gadget_refused r e f = by_refusal (call g shares out) tape r e f
 
   pub gadget_ran : {t : Told} {x : Ran Outcome} → first_failing (checks shares (length out) g.in_range (bound g.input)) ≡ 0 →
       t ≡ ran_told g.fields x out → x ≡ run (closed g.output (g.steps shares)) tape start → t ≡ tells g shares tape out
@@ -83,29 +92,31 @@ module _ (g : Gadget) (shares tape out : List ℕ) where
 
 -- so does one that opens nothing
 module _ (in_range : Bool) (input output : Sharing) (steps : List ℕ → Draws (List ℕ)) (shares tape out : List ℕ) where
-  pub silent_refused : {k : ℕ} {t : Told} → k ≡ first_failing (checks shares (length out) in_range (bound input)) → (k ≡ 0 → ⊥) → t ≡ refusal 0 k out →
+  pub silent_refused : (r : Refusal) {t : Told} → first_failing (checks shares (length out) in_range (bound input)) ≡ refusal_number r → t ≡ refused 0 r out →
       t ≡ tells (silent_gadget in_range input output steps) shares tape out
-  silent_refused = gadget_refused (silent_gadget in_range input output steps) shares tape out
+  silent_refused r e f = gadget_refused (silent_gadget in_range input output steps) shares tape out r e f
 
-  pub silent_ran_lem : {t : Told} {x : Ran (List ℕ)} → first_failing (checks shares (length out) in_range (bound input)) ≡ 0 →
-      t ≡ ran_told 0 (silent_ran x) out → x ≡ run (bind (steps shares) (refresh output)) tape start →
+  -- what filled a slice of as many words as there are shares
+  pub silent_ran_lem : {t : Told} (r : Option (Row 8)) → first_failing (checks shares (length out) in_range (bound input)) ≡ 0 → length out ≡ length shares →
+      t ≡ ran_told 0 (silent_ran (shared (length out) r)) out → shared (length shares) r ≡ run (bind (steps shares) (refresh output)) tape start →
       t ≡ tells (silent_gadget in_range input output steps) shares tape out
-  silent_ran_lem e f h =
-      gadget_ran (silent_gadget in_range input output steps) shares tape out e f (ap silent_ran h ∙ sym (closed-silent output (steps shares) tape start))
+  silent_ran_lem r e l f h =
+      gadget_ran (silent_gadget in_range input output steps) shares tape out e f
+      (ap silent_ran (ap (λ (n : ℕ). shared n r) l ∙ h) ∙ sym (closed-silent output (steps shares) tape start))
 
 -- so does a sampler
 module _ (g : Sampler) (n : ℕ) (tape out : List ℕ) where
-  pub sampler_refused : {k : ℕ} {t : Told} → k ≡ first_failing (checks_of n (length out) (g.coefficients * n) g.in_range []) → (k ≡ 0 → ⊥) →
-      t ≡ refusal 0 k out → t ≡ samples g n tape out
+  pub sampler_refused : (r : Refusal) {t : Told} → first_failing (checks_of n (length out) (g.coefficients * n) g.in_range []) ≡ refusal_number r →
+      t ≡ refused 0 r out → t ≡ samples g n tape out
   unfolding samples check_number
-  sampler_refused e h f = by_check (sampler_call g n out) tape e h f
+  sampler_refused r e f = by_refusal (sampler_call g n out) tape r e f
 
-  pub sampler_ran : {t : Told} {x : Ran (List ℕ)} → 0 ≡ first_failing (checks_of n (length out) (g.coefficients * n) g.in_range []) →
+  pub sampler_ran : {t : Told} {x : Ran (List ℕ)} → first_failing (checks_of n (length out) (g.coefficients * n) g.in_range []) ≡ 0 →
       t ≡ ran_told 0 (silent_ran x) (g.short out) → x ≡ run (g.steps n out) tape start → t ≡ samples g n tape out
   unfolding samples check_number
   sampler_ran e f h =
       f ∙ ap (λ y. ran_told 0 (silent_ran y) (g.short out)) h ∙ ap (λ y. ran_told 0 y (g.short out)) (sym (run-silent (g.steps n out) tape start))
-      ∙ sym (tells-passed (sampler_call g n out) tape (sym e))
+      ∙ sym (tells-passed (sampler_call g n out) tape e)
 
 -- an output slice that is not there has the right length
 pub judge_checks_lem : (g : Judge) (shares : List ℕ) → first_failing (checks shares (length shares) g.in_range (bound g.input)) ≡ first_failing (judge_checks shares g.in_range (bound g.input))
@@ -114,10 +125,10 @@ judge_checks_lem g shares = rw (eq-eqb (length shares) (length shares) refl)
 
 -- so does a gadget that judges
 module _ (g : Judge) (shares tape : List ℕ) where
-  pub judge_refused : {k : ℕ} {t : Told} → k ≡ first_failing (judge_checks shares g.in_range (bound g.input)) → (k ≡ 0 → ⊥) →
-      t ≡ refusal g.fields k [] → t ≡ judges g shares tape
+  pub judge_refused : (r : Refusal) {t : Told} → first_failing (judge_checks shares g.in_range (bound g.input)) ≡ refusal_number r →
+      t ≡ refused g.fields r [] → t ≡ judges g shares tape
   unfolding judges check_number
-  judge_refused e n f = by_check (judge_call g shares) tape e n f
+  judge_refused r e f = by_refusal (judge_call g shares) tape r e f
 
   pub judge_ran : {t : Told} {x : Ran Outcome} → first_failing (judge_checks shares g.in_range (bound g.input)) ≡ 0 → t ≡ ran_told g.fields x [] →
       x ≡ run (g.steps shares) tape start → t ≡ judges g shares tape
@@ -125,16 +136,21 @@ module _ (g : Judge) (shares tape : List ℕ) where
   judge_ran e f h = f ∙ ap (λ y. ran_told g.fields y []) h ∙ sym (tells-passed (judge_call g shares) tape e)
 
 -- steps that ran on the copied shares from the tape's start ran on the shares
-pub on_copy : (d : List ℕ → Draws (List ℕ)) {shares words : List ℕ} (tape : List ℕ) {room M : ℕ} {c : Cursor} {s : Shared} →
-    Copied 8 shares words → room ≡ length shares → c ≡ start → Gave (length shares) M s (run (d (take (length shares) words)) tape c) → shared room s ≡ run (d shares) tape start
-on_copy d tape {s = s} w e f g = ap (λ (n : ℕ). shared n s) e ∙ g.is ∙ ap₂ (λ (xs : List ℕ) (p : Cursor). run (d xs) tape p) w.first f
+module _ (d : List ℕ → Draws (List ℕ)) {shares words : List ℕ} (tape : List ℕ) {c : Cursor} (w : Copied 8 shares words) (f : c ≡ start) where
+  on_copy : run (d (take (length shares) words)) tape c ≡ run (d shares) tape start
+  on_copy = ap₂ (λ (xs : List ℕ) (p : Cursor). run (d xs) tape p) w.first f
 
--- and so did the closing refresh after them
-pub closed_on_copy : (d : List ℕ → Draws (List ℕ)) (output : Sharing) {shares words : List ℕ} (tape : List ℕ) {room M N : ℕ} {c : Cursor} {s r : Shared} →
-    Copied 8 shares words → room ≡ length shares → c ≡ start → Gave (length shares) M s (run (d (take (length shares) words)) tape c) →
-    Gave (length shares) N r (next (shared (length shares) s) (λ xs p. run (refresh output xs) tape p)) → shared room r ≡ run (bind (d shares) (refresh output)) tape start
-closed_on_copy d output {shares} tape {r = r} w e f g h =
-    ap (λ (n : ℕ). shared n r) e ∙ h.is ∙ ap (λ x. next x (λ xs p. run (refresh output xs) tape p)) (on_copy d tape w refl f g) ∙ sym (run_bind (d shares) (refresh output) tape start)
+  pub given_copy : (M : ℕ) (r : Option (Row 8)) → Gave (length shares) M r (run (d (take (length shares) words)) tape c) → shared (length shares) r ≡ run (d shares) tape start
+  given_copy M r g = gave_is (length shares) M r g ∙ on_copy
+
+  -- and so did the closing refresh after them
+  module _ (output : Sharing) where
+    pub closed_copy : (N : ℕ) (r : Option (Row 8)) {xs : List ℕ} {p : Cursor} → run (d (take (length shares) words)) tape c ≡ ran xs p →
+        Gave (length shares) N r (run (refresh output xs) tape p) → shared (length shares) r ≡ run (bind (d shares) (refresh output)) tape start
+    closed_copy N r g h = gave_is (length shares) N r h ∙ sym (bind_ran (d shares) (refresh output) tape start _ _ (sym on_copy ∙ g))
+
+    pub short_copy : run (d (take (length shares) words)) tape c ≡ ended → ended ≡ run (bind (d shares) (refresh output)) tape start
+    short_copy g = sym (bind_ended (d shares) (refresh output) tape start (sym on_copy ∙ g))
 
 -- as many words as there are shares, where no check failed: the copied shares, below M
 module _ {shares : List ℕ} {room M : ℕ} (c : Checked shares room M) where
@@ -142,5 +158,5 @@ module _ {shares : List ℕ} {room M : ℕ} (c : Checked shares room M) where
   held two w = record { least = c.least; most = c.most; two = two; all = w.rest M (omega arith) c.below }
 
   -- and what the steps gave of them, below N
-  pub held_given : {N : ℕ} {s : Shared} {x : Ran (List ℕ)} → 2 ≤ N → Gave (length shares) N s x → s.ok ≡ true → Held 8 (length shares) N s.words
-  held_given two g t = record { least = c.least; most = c.most; two = two; all = g.below t }
+  pub held_given : {N : ℕ} {words : List ℕ} → 2 ≤ N → Words 8 N words → Held 8 (length shares) N words
+  held_given two w = record { least = c.least; most = c.most; two = two; all = w }

@@ -3,7 +3,9 @@ use Rattle.std.specs.Prelude.{Bool, List, [], ◌∷◌, ℕ, replicate, eqb}
 use Rattle.numbers.specs.Tests.{pick}
 use Rattle.tape.specs.Tape.{Ran, ended, ran, start}
 use Rattle.draws.specs.Draws.{Draws, run}
+use Rattle.checks.specs.declared.Refusal.{Refusal}
 use Rattle.checks.specs.Checks.{first_failing}
+use Rattle.checks.specs.Admission.{refusal_number}
 use Rattle.gate.specs.declared.Answer.{Answer}
 use Rattle.gate.specs.declared.Decomposed.{Decomposed}
 use Rattle.gate.specs.declared.Judged.{Judged}
@@ -18,6 +20,10 @@ pub record Told : Type 0 where
 -- a refusal: its number, and 0 for all else that is told
 unfoldable pub refusal : ℕ → ℕ → List ℕ → Told
 refusal fields number out = record { number = number; others = replicate fields 0; used = 0; out = out }
+
+-- the refusal for a reason
+abbrev pub refused : ℕ → Refusal → List ℕ → Told
+refused fields reason out = refusal fields (refusal_number reason) out
 
 -- the outcome of a gadget's steps: what fills those fields, and its shares
 pub record Outcome : Type 0 where

@@ -1,10 +1,11 @@
 // What a caller gets back: the answers, and the output slice filled.
 #![tactic(auto)]
 
-ghost use Rattle.std.specs.Prelude.{◌≡◌, List, ℕ, ◌≤◌, length};
+ghost use Rattle.std.specs.Prelude.{◌≡◌, List, [], ℕ, ◌≤◌, length};
 ghost use Rattle.shares.specs.Arrays.{shared};
-ghost use Rattle.gate.specs.Told.{refusal, silent_ran, ran_told, stands_for};
+ghost use Rattle.gate.specs.Told.{refused, silent_ran, ran_told, stands_for, parts_stand_for, judged_stands_for};
 
+use checks::Refusal;
 use copies::copy_out;
 use shares::Shared;
 
@@ -36,25 +37,56 @@ pub struct Judged {
     pub used: usize,
 }
 
-pub fn refused(number: u32) -> Answer
-    ensures { (out : List ℕ) → stands_for result out ≡ refusal 0 number out }
-{
-    Answer { number, used: 0 }
+impl From<Refusal> for Answer {
+    ghost from_gives = { λ refusal told. (out : List ℕ) → stands_for told out ≡ refused 0 refusal out };
+
+    #[tactic(auto, unfolding(crate::specs::Told::refusal, crate::specs::Told::stands_for))]
+    fn from(refusal: Refusal) -> Answer {
+        Answer {
+            number: u32::from(refusal),
+            used: 0,
+        }
+    }
+}
+
+impl From<Refusal> for Decomposed {
+    ghost from_gives = { λ refusal told. (out : List ℕ) → parts_stand_for told out ≡ refused 1 refusal out };
+
+    #[tactic(auto, unfolding(crate::specs::Told::refusal, crate::specs::Told::parts_stand_for))]
+    fn from(refusal: Refusal) -> Decomposed {
+        Decomposed {
+            number: u32::from(refusal),
+            high: 0,
+            used: 0,
+        }
+    }
+}
+
+impl From<Refusal> for Judged {
+    ghost from_gives = { λ refusal told. judged_stands_for told ≡ refused 2 refusal [] };
+
+    #[tactic(auto, unfolding(crate::specs::Told::refusal, crate::specs::Told::judged_stands_for))]
+    fn from(refusal: Refusal) -> Judged {
+        Judged {
+            number: u32::from(refusal),
+            verdict: 0,
+            opened: 0,
+            used: 0,
+        }
+    }
 }
 
 // The shares that a gadget gave fill the output slice; where the tape has ended, the slice stays as it was.
-pub fn finish(s: Shared, out: &mut [u32]) -> Answer
+pub fn finish(given: Option<Shared>, out: &mut [u32]) -> Answer
     requires { length out.old ≤ 8 }
-    ensures { stands_for result out.new ≡ ran_told 0 (silent_ran (shared (length out.old) s)) out.old }
+    ensures { stands_for result out.new ≡ ran_told 0 (silent_ran (shared (length out.old) given)) out.old }
 {
-    if !s.ok {
-        return refused(5);
-    }
-    let words = s.words;
-    copy_out(words, out);
-    let c = s.cursor;
+    let Some(row) = given else {
+        return Answer::from(Refusal::TapeEnded);
+    };
+    copy_out(row.words, out);
     Answer {
         number: 0,
-        used: c.at,
+        used: row.cursor.at,
     }
 }

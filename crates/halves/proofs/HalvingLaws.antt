@@ -24,11 +24,11 @@ halves_words w = words_along _ w (λ i x l k. omega arith)
 module _ (m n : ℕ) (ws tape : List ℕ) (p : Cursor) where
   -- the steps after the shared parity, which make no draws
   pub halving_ran : (ps rs : List ℕ) {c : Cursor} → run (shared_parity (2 * m) (take n ws)) tape p ≡ ran (take n ps) c →
-      take n rs ≡ halves (evened (2 * m) (less (2 * m) (take n ps) (take n ws))) → ran (take n rs) c ≡ run (halving m (take n ws)) tape p
+      take n rs ≡ halves (evened (2 * m) (less (2 * m) (take n ps) (take n ws))) → run (halving m (take n ws)) tape p ≡ ran (take n rs) c
   unfolding halving
   halving_ran ps rs {c} e f =
-      ap (λ (l : List ℕ). ran l c) f ∙ sym (bind_ran (shared_parity (2 * m) (take n ws)) _ tape p (take n ps) c e ∙ run_done _ tape c)
+      bind_ran (shared_parity (2 * m) (take n ws)) _ tape p (take n ps) c e ∙ run_done _ tape c ∙ ap (λ (l : List ℕ). ran l c) (sym f)
 
-  pub halving_ended : run (shared_parity (2 * m) (take n ws)) tape p ≡ ended → ended ≡ run (halving m (take n ws)) tape p
+  pub halving_ended : run (shared_parity (2 * m) (take n ws)) tape p ≡ ended → run (halving m (take n ws)) tape p ≡ ended
   unfolding halving
-  halving_ended e = sym (bind_ended (shared_parity (2 * m) (take n ws)) _ tape p e)
+  halving_ended e = bind_ended (shared_parity (2 * m) (take n ws)) _ tape p e

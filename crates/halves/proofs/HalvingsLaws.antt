@@ -16,7 +16,9 @@ use Rattle.tape.specs.declared.Cursor.{Cursor}
 use Rattle.tape.specs.Tape.{Ran, ended, ran}
 use Rattle.draws.specs.Draws.{bind, run}
 use Rattle.draws.proofs.RunLaws.{run_done, bind_ran, bind_ended}
-use Rattle.shares.specs.Arrays.{Held, Given}
+use Rattle.std.specs.Prelude.{Option}
+use Rattle.shares.specs.declared.Row.{Row}
+use Rattle.shares.specs.Arrays.{Held, Gave}
 use Rattle.shares.proofs.ArraysLaws.{held_below}
 use Rattle.halves.specs.Halving.{halving}
 use Rattle.halves.specs.Shift.{shift}
@@ -46,15 +48,15 @@ unfolding halvings to_boolean
 halvings_bits k xs = from_bits 0 (k - 1) xs (replicate (length xs) 0)
 
 -- and so of what the loop gave
-module _ {n : ℕ} (ws tape : List ℕ) (p : Cursor) {ok : Bool} {words : List ℕ} {c : Cursor} where
-  pub given_shift : (m t : ℕ) → Given 8 n m ok words c (run (halvings false m t (take n ws)) tape p) → Given 8 n m ok words c (run (shift m t (take n ws)) tape p)
+module _ (n : ℕ) (ws tape : List ℕ) (p : Cursor) (r : Option (Row 8)) where
+  pub given_shift : (m t : ℕ) → Gave n m r (run (halvings false m t (take n ws)) tape p) → Gave n m r (run (shift m t (take n ws)) tape p)
   given_shift m t a = rw (← halvings-shift m t (take n ws)) a
 
-  pub given_bits : (k : ℕ) → 1 ≤ k → Given 8 n (2 ^ suc (k - 1)) ok words c (run (halvings true 2 (k - 1) (take n ws)) tape p) →
-      Given 8 n (2 ^ k) ok words c (run (to_boolean k (take n ws)) tape p)
+  pub given_bits : (k : ℕ) → 1 ≤ k → Gave n (2 ^ suc (k - 1)) r (run (halvings true 2 (k - 1) (take n ws)) tape p) →
+      Gave n (2 ^ k) r (run (to_boolean k (take n ws)) tape p)
   given_bits k h a =
       let e : suc (k - 1) ≡ k = omega arith in
-      rw (← halvings_bits k (take n ws)) (subst (λ (j : ℕ). Given 8 n (2 ^ j) ok words c (run (halvings true 2 (k - 1) (take n ws)) tape p)) e a)
+      rw (← halvings_bits k (take n ws)) (subst (λ (j : ℕ). Gave n (2 ^ j) r (run (halvings true 2 (k - 1) (take n ws)) tape p)) e a)
 
 -- the halvings between k bits begin modulo 2^k
 pub power_last : (k : ℕ) → 1 ≤ k → 2 ^ (k - 1) * 2 ≡ 2 ^ k
@@ -86,9 +88,9 @@ words_two h w = words_cons (words_at h w 0) (words_cons (words_at h w 1) words_n
 pub held_two : {n M : ℕ} {ws : List ℕ} → Held 8 n M ws → Held 2 2 M (get_or ws 0 0 ∷ get_or ws 1 0 ∷ [])
 held_two a = record { least = omega arith; most = omega arith; two = a.two; all = words_two (omega (arith, a.two)) a.all }
 
-pub given_two : {n M : ℕ} (g : Bool) (m t : ℕ) (ws tape : List ℕ) (p : Cursor) {ok : Bool} {words : List ℕ} {c : Cursor} → n ≡ 2 → length ws ≡ 8 →
-    Given 8 2 M ok words c (run (halvings g m t (get_or ws 0 0 ∷ get_or ws 1 0 ∷ [])) tape p) → Given 8 n M ok words c (run (halvings g m t (take n ws)) tape p)
-given_two g m t ws tape p e size a = rw (e, ← take_two ws (omega arith)) a
+pub given_two : (n M : ℕ) (g : Bool) (m t : ℕ) (ws tape : List ℕ) (p : Cursor) (r : Option (Row 8)) → n ≡ 2 → length ws ≡ 8 →
+    Gave 2 M r (run (halvings g m t (get_or ws 0 0 ∷ get_or ws 1 0 ∷ [])) tape p) → Gave n M r (run (halvings g m t (take n ws)) tape p)
+given_two n M g m t ws tape p r e size a = rw (e, ← take_two ws (omega arith)) a
 
 -- in an array of eight
 pub words_eight : {M : ℕ} {x y : ℕ} → Words 2 M (x ∷ y ∷ []) → Words 8 M (x ∷ y ∷ replicate 6 0)
@@ -147,13 +149,13 @@ module _ {size n : ℕ} {g : Bool} {m t : ℕ} {tape : List ℕ} {x : Ran (List 
     last : run (halvings_from g m t 0 (take n words) (take n bits)) tape p ≡ x
     last = let e : t - t ≡ 0 = omega arith in subst (λ (j : ℕ). run (halvings_from g m t j (take n words) (take n bits)) tape p ≡ x) e (subst (λ (j : ℕ). run (halvings_from g m j (t - j) (take n words) (take n bits)) tape p ≡ x) at_end a.same)
 
-    pub halved_shares : g ≡ false → ran (take n words) p ≡ x
+    pub halved_shares : g ≡ false → x ≡ ran (take n words) p
     unfolding halvings_from
-    halved_shares e = sym (rw e (run_done (take n words) tape p)) ∙ last
+    halved_shares e = sym last ∙ rw e (run_done (take n words) tape p)
 
-    pub halved_gathered : g ≡ true → ran (take n (with_bit t words bits)) p ≡ x
+    pub halved_gathered : g ≡ true → x ≡ ran (take n (with_bit t words bits)) p
     unfolding halvings_from
-    halved_gathered e = ap (λ (l : List ℕ). ran l p) (with_bit-take t n words bits) ∙ sym (rw e (run_done (with_bit t (take n words) (take n bits)) tape p)) ∙ last
+    halved_gathered e = sym (ap (λ (l : List ℕ). ran l p) (with_bit-take t n words bits) ∙ sym (rw e (run_done (with_bit t (take n words) (take n bits)) tape p)) ∙ last)
 
   -- one more
   module _ (h : b < t) where
@@ -178,8 +180,8 @@ module _ {size n : ℕ} {g : Bool} {m t : ℕ} {tape : List ℕ} {x : Ran (List 
     unfolding halvings_from
     parts = rw left (rw half)
 
-    pub halved_ended : run (halving (modulus / 2) (take n words)) tape p ≡ ended → ended ≡ x
-    halved_ended e = sym (rw parts (bind_ended (halving (modulus / 2) (take n words)) _ tape p e)) ∙ a.same
+    pub halved_ended : run (halving (modulus / 2) (take n words)) tape p ≡ ended → x ≡ ended
+    halved_ended e = sym a.same ∙ rw parts (bind_ended (halving (modulus / 2) (take n words)) _ tape p e)
 
     pub halved_more : {others more : List ℕ} {c : Cursor} → run (halving (modulus / 2) (take n words)) tape p ≡ ran (take n others) c → Words size (modulus / 2) others →
         more ≡ gathered g b words bits → Halved size n g m t tape x (b + 1) others more (modulus / 2) c

@@ -129,7 +129,7 @@ joining_start size n M xs tape p h =
 
 module _ {size n M : ℕ} {xs tape : List ℕ} {x : Ran (List ℕ)} {i : ℕ} {words : List ℕ} {p : Cursor} (a : Joining size n M xs tape x i words p) (h : i < n) where
   -- the tape has ended
-  pub joining_ended : run (refresh (arithmetic M) (take n words)) tape p ≡ ended → ended ≡ x
+  pub joining_ended : run (refresh (arithmetic M) (take n words)) tape p ≡ ended → x ≡ ended
   unfolding join_turn
   joining_ended e = looping_ended a.left h (bind_ended (refresh (arithmetic M) (take n words)) _ tape p e)
 

@@ -1,25 +1,18 @@
 -- Laws of the halving of two shares: its one draw, and what it gives.
 use mathlib.Core.Path.{◌≡◌, refl, sym, ap, ◌∙◌}
-use mathlib.Core.Bool.{true}
 use mathlib.Core.List.{List, [], ◌∷◌}
 use Prim.Native.Nat.{ℕ, ◌*◌, ◌/◌, ◌<◌}
 use native.Mathlib.Omega.{arith}
 use lib.ListN.{replicate}
 use Rattle.numbers.specs.Modulo.{add_mod, sub_mod}
-use Rattle.numbers.specs.Lists.{along, change, over}
+use Rattle.numbers.specs.Lists.{Words, along, change, over}
 use Rattle.numbers.proofs.WordsLaws.{words_cons, words_same}
 use Rattle.words.proofs.WordLaws.{sub_low}
 use Rattle.tape.specs.declared.Cursor.{Cursor}
-use Rattle.tape.specs.declared.Draw.{Draw}
-use Rattle.tape.specs.declared.Draw.TheVariants.{Got, Ended}
 use Rattle.tape.specs.Tape.{ended, ran, draw_at}
-use Rattle.tape.specs.Answers.{draw_stands_for}
-use Rattle.tape.proofs.DrawLaws.{got, got_none}
 use Rattle.draws.specs.Draws.{after, next, run, bind, turns, each}
 use Rattle.shares.specs.Sharing.{move}
 use Rattle.shares.specs.Refresh.{turn, refresh}
-use Rattle.shares.specs.Arrays.{Given}
-use Rattle.shares.proofs.ArraysLaws.{whole}
 use Rattle.halves.specs.Halving.{parity, join, join_turn, shared_parity, less, move_parity, evened, halves, halving}
 use Rattle.halves.specs.AtOnce.{joined}
 use Rattle.halves.proofs.ParityLaws.{join_is}
@@ -50,17 +43,17 @@ module _ (m x y : ℕ) (tape : List ℕ) (p : Cursor) where
   unfolding halving shared_parity join_turn refresh turn each turns bind run move change
   two_run = refl
 
-  module _ (d : Draw) (told : draw_stands_for d ≡ draw_at tape p (2 * m)) where
-    -- the tape has ended
-    pub two_ended : d ≡ Ended → ended ≡ run (halving m (x ∷ y ∷ [])) tape p
-    unfolding next after
-    two_ended e = sym (two_run ∙ rw (got_none d told e))
+  -- the tape has ended
+  pub two_ended : ended ≡ draw_at tape p (2 * m) → run (halving m (x ∷ y ∷ [])) tape p ≡ ended
+  unfolding next after
+  two_ended e = two_run ∙ rw (sym e)
 
-    -- it suffices
-    pub two_gave : {r : ℕ} {c : Cursor} → d ≡ Got r c → {α β a b u v : ℕ} → α ≡ add_mod (2 * m) (parity x) r → β ≡ sub_mod (2 * m) 0 r →
-        a ≡ joined (2 * m) (parity y) 0 α → b ≡ joined (2 * m) (parity y) 1 β → u ≡ sub_mod (2 * m) x a → v ≡ sub_mod (2 * m) y b →
-        u < 2 * m → {w : ℕ} → w ≡ add_mod (2 * m) v (parity u) → w < 2 * m → Given 8 2 m true (u / 2 ∷ w / 2 ∷ replicate 6 0) c (run (halving m (x ∷ y ∷ [])) tape p)
-    unfolding next after
-    two_gave {r} {c} e eα eβ ea eb eu ev l ew k =
-        whole refl (words_cons (omega arith) (words_cons (omega arith) (words_same (omega arith))))
-        (sym (two_run ∙ rw (got d told e, ← eα, ← eβ) (ap (λ (xs : List ℕ). ran xs c) (two_shares (2 * m) (parity y) x y _ _ ea eb eu ev l ew))))
+  -- it suffices
+  pub two_gave : {r : ℕ} {c : Cursor} → ran r c ≡ draw_at tape p (2 * m) → {α β a b u v : ℕ} → α ≡ add_mod (2 * m) (parity x) r → β ≡ sub_mod (2 * m) 0 r →
+      a ≡ joined (2 * m) (parity y) 0 α → b ≡ joined (2 * m) (parity y) 1 β → u ≡ sub_mod (2 * m) x a → v ≡ sub_mod (2 * m) y b →
+      u < 2 * m → {w : ℕ} → w ≡ add_mod (2 * m) v (parity u) → w < 2 * m → (run (halving m (x ∷ y ∷ [])) tape p ≡ ran (u / 2 ∷ w / 2 ∷ []) c) × Words 8 m (u / 2 ∷ w / 2 ∷ replicate 6 0)
+  unfolding next after
+  two_gave {r} {c} e eα eβ ea eb eu ev l ew k = (
+    two_run ∙ rw (sym e, ← eα, ← eβ) (ap (λ (xs : List ℕ). ran xs c) (two_shares (2 * m) (parity y) x y _ _ ea eb eu ev l ew)),
+    words_cons (omega arith) (words_cons (omega arith) (words_same (omega arith))),
+  )

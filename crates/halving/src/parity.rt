@@ -7,7 +7,7 @@ ghost use Rattle.halves.specs.Halving.{join, shared_parity};
 ghost use Rattle.halves.specs.AtOnce.{signed, joined};
 
 use params::Params;
-use shares::{Shared, refresh};
+use shares::{Arithmetic, Row, Shared, close};
 use tape::Cursor;
 use words::{add_mod, neg_mod};
 
@@ -35,11 +35,11 @@ fn join(words: [u32; Params::MOST], n: usize, p: u32, modulus: u32) -> [u32; Par
     ensures { Words 8 modulus result × (take n result ≡ join modulus p (take n words)) }
 {
     let mut out = [0u32; Params::MOST];
-    for i in 0..Params::MOST {
+    for (i, word) in words.iter().enumerate() {
         if i == n {
             return out;
         }
-        out[i] = joined(i, p, words[i], modulus);
+        out[i] = joined(i, p, *word, modulus);
     }
     out
 }
@@ -50,24 +50,21 @@ pub fn shared_parity(
     modulus: u32,
     cursor: Cursor,
     tape: &[u32],
-) -> Shared
+) -> Option<Shared>
     requires { Held 8 n modulus shares }
     ensures { Gave n modulus result (run (shared_parity modulus (take n shares)) tape.now cursor) }
 {
-    let mut words = [shares[0] % 2, 0, 0, 0, 0, 0, 0, 0];
-    let mut cur = cursor;
-    for i in 1..n {
-        let s = refresh(words, n, modulus, cur, tape);
-        if !s.ok {
-            return Shared::ended();
-        }
-        let fresh = s.words;
-        words = join(fresh, n, shares[i] % 2, modulus);
-        cur = s.cursor;
+    let kind = Arithmetic { m: modulus };
+    let mut given = Row {
+        words: [shares[0] % 2, 0, 0, 0, 0, 0, 0, 0],
+        cursor,
+    };
+    for share in &shares[1..n] {
+        let fresh = close(given, n, kind, tape)?;
+        given = Row {
+            words: join(fresh.words, n, *share % 2, modulus),
+            cursor: fresh.cursor,
+        };
     }
-    Shared {
-        words,
-        cursor: cur,
-        ok: true,
-    }
+    Some(given)
 }

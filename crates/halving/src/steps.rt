@@ -7,12 +7,12 @@ ghost use Rattle.halves.specs.Halving.{less, evened, halves, halving};
 
 use super::parity::shared_parity;
 use params::Params;
-use shares::Shared;
+use shares::{Row, Shared};
 use tape::Cursor;
 use words::{add_mod, sub_mod};
 
 // The steps after the shared parity, in one pass that ends at the last share: A is subtracted, the parities of the others move into the last, and all
-// are halved. Each word is written once, and nothing is done for the places after the last.
+// are halved. Each word is written once, and nothing is done for the places after the last. Two arrays are read at one place, so places are counted.
 fn finished(
     shares: [u32; Params::MOST],
     a: [u32; Params::MOST],
@@ -37,20 +37,19 @@ fn finished(
     words
 }
 
-pub fn halve(shares: [u32; Params::MOST], n: usize, m: u32, cursor: Cursor, tape: &[u32]) -> Shared
+pub fn halve(
+    shares: [u32; Params::MOST],
+    n: usize,
+    m: u32,
+    cursor: Cursor,
+    tape: &[u32],
+) -> Option<Shared>
     requires { Held 8 n (2 * m) shares × (m ≤ 2147483647) }
     ensures { Gave n m result (run (halving m (take n shares)) tape.now cursor) }
 {
-    let double = 2 * m;
-    let s = shared_parity(shares, n, double, cursor, tape);
-    if !s.ok {
-        return Shared::ended();
-    }
-    let a = s.words;
-    let c = s.cursor;
-    Shared {
-        words: finished(shares, a, n, m),
-        cursor: c,
-        ok: true,
-    }
+    let parity = shared_parity(shares, n, 2 * m, cursor, tape)?;
+    Some(Row {
+        words: finished(shares, parity.words, n, m),
+        cursor: parity.cursor,
+    })
 }

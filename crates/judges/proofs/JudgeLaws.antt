@@ -16,7 +16,7 @@ use Rattle.gate.specs.declared.Judged.{Judged}
 module _ (bounds : Bounds) (xs tape : List ℕ) (c : Cursor) where
   pub judged_ended : run (tested bounds xs) tape c ≡ ended → refusal 2 5 [] ≡ ran_told 2 (run (verdict bounds xs) tape c) []
   unfolding verdict ran_told
-  judged_ended e = ap (λ x. ran_told 2 x []) (part_ended _ _ tape c refl e)
+  judged_ended e = sym (ap (λ x. ran_told 2 x []) (part_ended _ _ tape c refl e))
 
   -- the shares ts are opened
   pub judged_ran : (ts : List ℕ) {d : Cursor} → run (tested bounds xs) tape c ≡ ran ts d → {o : ℕ} → o ≡ value (arithmetic q) ts →

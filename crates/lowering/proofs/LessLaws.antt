@@ -32,9 +32,9 @@ module _ (s : Sharing) (r n : ℕ) (xs : List ℕ) (h : Held 8 n (bound s) xs) w
 
     -- with two shares or more the last is not the first
     pub less-start : {zs : List ℕ} → Words 8 (bound s) zs → (tape : List ℕ) (p : Cursor) →
-        Writing s n (take_from_first s r xs) tape (run (refresh s (take_from_first s r (take n xs))) tape p) 0 zs (get_or xs (n - 1) 0) p
+        Writing s 8 n (take_from_first s r xs) tape (run (refresh s (take_from_first s r (take n xs))) tape p) 0 zs (get_or xs (n - 1) 0) p
     less-start {zs} w tape p =
         let lowered : List ℕ = take_from_first s r xs in
-        subst (λ (y : ℕ). Writing s n lowered tape (run (refresh s (take_from_first s r (take n xs))) tape p) 0 zs y p) (less_other (n - 1) (omega (arith, h.least)))
-        (subst (λ (l : List ℕ). Writing s n lowered tape (run (refresh s l) tape p) 0 zs (get_or lowered (n - 1) 0) p) (taken-take s r n xs (omega (arith, h.least)))
-        (writing_start s n lowered zs tape p less-held w))
+        subst (λ (y : ℕ). Writing s 8 n lowered tape (run (refresh s (take_from_first s r (take n xs))) tape p) 0 zs y p) (less_other (n - 1) (omega (arith, h.least)))
+        (subst (λ (l : List ℕ). Writing s 8 n lowered tape (run (refresh s l) tape p) 0 zs (get_or lowered (n - 1) 0) p) (taken-take s r n xs (omega (arith, h.least)))
+        (writing_start s 8 n lowered zs tape p less-held w))

@@ -1,45 +1,37 @@
 // The refresh that closes shares from whose first a number is taken.
 #![tactic(auto)]
 
-ghost use Rattle.std.specs.Prelude.{◌≡◌, true, ◌<◌};
-ghost use Rattle.draws.specs.Draws.{next, run};
+ghost use Rattle.std.specs.Prelude.{◌≡◌, ◌<◌, take};
+ghost use Rattle.draws.specs.Draws.{run};
 ghost use Rattle.shares.specs.Sharing.{arithmetic};
 ghost use Rattle.shares.specs.Refresh.{refresh};
-ghost use Rattle.shares.specs.Arrays.{Held, shared, Gave};
+ghost use Rattle.shares.specs.Arrays.{Held, Gave};
 ghost use Rattle.first.specs.First.{take_from_first};
 
 use params::Params;
-use shares::Shared;
-use tape::Draw;
+use shares::{Row, Shared};
 use words::{add_mod, sub_mod};
 
 // In one pass, as in `shares::close`: the shares are read where the steps before left them, and no array is copied for the one that changes. The first
 // less the offset is ready before the first draw; the last share is another one, since there are at least two.
-pub fn close_less(s: Shared, offset: u32, n: usize, m: u32, tape: &[u32]) -> Shared
-    requires { (offset < m) × (s.ok ≡ true → Held 8 n m s.words) }
-    ensures { Gave n m result (next (shared n s) (λ xs c. run (refresh (arithmetic m) (take_from_first (arithmetic m) offset xs)) tape.now c)) }
+pub fn close_less(given: Shared, offset: u32, n: usize, m: u32, tape: &[u32]) -> Option<Shared>
+    requires { (offset < m) × Held 8 n m given.words }
+    ensures { Gave n m result (run (refresh (arithmetic m) (take_from_first (arithmetic m) offset (take n given.words))) tape.now given.cursor) }
 {
-    if !s.ok {
-        return Shared::ended();
-    }
-    let first = sub_mod(s.words[0], offset, m);
+    let first = sub_mod(given.words[0], offset, m);
     let mut words = [0u32; Params::MOST];
-    let mut cur = s.cursor;
+    let mut cur = given.cursor;
     let last = n - 1;
-    let mut last_share = s.words[last];
+    let mut last_share = given.words[last];
     for i in 0..last {
-        let Draw::Got(r, next) = cur.draw(tape, m) else {
-            return Shared::ended();
+        let Some((r, next)) = cur.draw(tape, m) else {
+            return None;
         };
-        let x = if i == 0 { first } else { s.words[i] };
+        let x = if i == 0 { first } else { given.words[i] };
         words[i] = add_mod(x, r, m);
         last_share = sub_mod(last_share, r, m);
         cur = next;
     }
     words[last] = last_share;
-    Shared {
-        words,
-        cursor: cur,
-        ok: true,
-    }
+    Some(Row { words, cursor: cur })
 }

@@ -9,14 +9,10 @@ use lib.Seq.{take-suc-set}
 use Rattle.numbers.specs.Lists.{Words}
 use Rattle.numbers.proofs.WordsLaws.{words_set, words_same}
 use Rattle.tape.specs.declared.Cursor.{Cursor}
-use Rattle.tape.specs.declared.Draw.{Draw}
-use Rattle.tape.specs.declared.Draw.TheVariants.{Got, Ended}
 use Rattle.tape.specs.Tape.{Ran, ended, ran, draw_at}
-use Rattle.tape.specs.Answers.{draw_stands_for}
-use Rattle.tape.proofs.DrawLaws.{got, got_none}
 use Rattle.draws.specs.Draws.{done, bind, after, next, run}
 use Rattle.draws.specs.Plan.{draw_all}
-use Rattle.draws.proofs.DrawnLaws.{got_below}
+use Rattle.draws.proofs.DrawnLaws.{draw_below}
 use Rattle.draws.proofs.RunLaws.{run_bind, run_draw, run_ended}
 
 -- a draw and then others, after those that were made
@@ -42,25 +38,25 @@ drawing_start M n tape p pos h = record { most = omega arith; fits = h; below = 
 
 module _ {M n : ℕ} {tape : List ℕ} {x : Ran (List ℕ)} {i : ℕ} {words : List ℕ} {p : Cursor} (a : Drawing M n tape x i words p) where
   -- no draw is left
-  pub drawing_all : n ≤ i → ran (take n words) p ≡ x
+  pub drawing_all : n ≤ i → x ≡ ran (take n words) p
   unfolding draw_all run next after
   drawing_all h =
       let e : n - i ≡ 0 = omega arith in
       let f : n ≡ i = omega (arith, a.most) in
-      ap (λ (k : ℕ). ran (take k words) p) f ∙ ap (λ (l : List ℕ). ran l p) (sym (append-nil (take i words))) ∙ (rw e at a.same)
+      sym (ap (λ (k : ℕ). ran (take k words) p) f ∙ ap (λ (l : List ℕ). ran l p) (sym (append-nil (take i words))) ∙ (rw e at a.same))
 
-  module _ (h : i < n) (d : Draw) (told : draw_stands_for d ≡ draw_at tape p M) where
+  module _ (h : i < n) where
     -- one draw and then the rest
     one : n - i ≡ suc (n - (i + 1))
     one = omega arith
 
-    pub drawing_ended : d ≡ Ended → ended ≡ x
+    pub drawing_ended : ended ≡ draw_at tape p M → x ≡ ended
     unfolding draw_all next after
     drawing_ended e =
         let f = rw one at a.same in
-        sym (ap (λ (y : Ran (List ℕ)). next y (λ rs c. ran (take i words ++ rs) c)) (run_ended M _ tape p (got_none d told e))) ∙ f
+        sym f ∙ ap (λ (y : Ran (List ℕ)). next y (λ rs c. ran (take i words ++ rs) c)) (run_ended M _ tape p (sym e))
 
-    pub drawing_more : {r : ℕ} {c : Cursor} → d ≡ Got r c → Drawing M n tape x (i + 1) (set words i r) c
+    pub drawing_more : {r : ℕ} {c : Cursor} → ran r c ≡ draw_at tape p M → Drawing M n tape x (i + 1) (set words i r) c
     unfolding draw_all run next after
     drawing_more {r} {c} e =
         let f = rw one at a.same in
@@ -69,10 +65,10 @@ module _ {M n : ℕ} {tape : List ℕ} {x : Ran (List ℕ)} {i : ℕ} {words : L
         record {
           most = omega arith;
           fits = a.fits;
-          below = words_set a.below i (got_below d tape p M told e);
+          below = words_set a.below i (draw_below tape p e);
           same =
               ap (λ (l : List ℕ). next (run (draw_all ms) tape c) (λ rs q. ran (l ++ rs) q)) taken
               ∙ sym (draw_after (take i words) r (run (draw_all ms) tape c))
-              ∙ sym (ap (λ (y : Ran (List ℕ)). next y (λ rs q. ran (take i words ++ rs) q)) (run_draw M (λ s. bind (draw_all ms) (λ rs. done (s ∷ rs))) tape p r c (got d told e) ∙ run_bind (draw_all ms) (λ rs. done (r ∷ rs)) tape c))
+              ∙ sym (ap (λ (y : Ran (List ℕ)). next y (λ rs q. ran (take i words ++ rs) q)) (run_draw M (λ s. bind (draw_all ms) (λ rs. done (s ∷ rs))) tape p r c (sym e) ∙ run_bind (draw_all ms) (λ rs. done (r ∷ rs)) tape c))
               ∙ f;
         }

@@ -64,17 +64,17 @@ unfolding polynomial
 filling_start p n tape out e = record { size = e; same = refl }
 
 module _ {p : Params} {n : ℕ} {tape : List ℕ} {x : Ran (List ℕ)} {c : ℕ} {out : List ℕ} {cursor : Cursor} (a : Filling p n tape x c out cursor) where
-  pub filling_all : 256 ≤ c → ran out cursor ≡ x
-  filling_all h = sym (each_done (row p n) c 256 out tape cursor h) ∙ a.same
+  pub filling_all : 256 ≤ c → x ≡ ran out cursor
+  filling_all h = sym a.same ∙ each_done (row p n) c 256 out tape cursor h
 
   module _ (h : c < 256) where
     -- the row is lent
     pub filling_within : c * n + n ≤ length out
     filling_within = omega (arith, row_within c 256 n h, a.size)
 
-    pub filling_ended : run (coefficient p n) tape cursor ≡ ended → ended ≡ x
+    pub filling_ended : run (coefficient p n) tape cursor ≡ ended → x ≡ ended
     unfolding row
-    filling_ended e = sym (each_ended (row p n) c 256 out tape cursor h (bind_ended (coefficient p n) _ tape cursor e)) ∙ a.same
+    filling_ended e = sym a.same ∙ each_ended (row p n) c 256 out tape cursor h (bind_ended (coefficient p n) _ tape cursor e)
 
     -- and comes back
     pub filling_more : {ys : List ℕ} {next : Cursor} →

@@ -25,20 +25,20 @@ unfolding to_modulus after_convert taken_off
 whole_is {n} {α} Q μ ws most is = let same : alpha (length (take n ws)) ≡ α = ap alpha (length-take-le n ws most) ∙ sym is in rw same
 
 module _ {n α : ℕ} (Q μ : ℕ) (ws tape : List ℕ) (p : Cursor) (most : n ≤ length ws) (is : α ≡ alpha n) where
-  pub convert_ended : run (to_arithmetic (μ + α) (take n ws)) tape p ≡ ended → ended ≡ run (to_modulus Q μ (take n ws)) tape p
+  pub convert_ended : run (to_arithmetic (μ + α) (take n ws)) tape p ≡ ended → run (to_modulus Q μ (take n ws)) tape p ≡ ended
   convert_ended = part_ended _ _ tape p (whole_is Q μ ws most is)
 
   module _ {ys : List ℕ} {c : Cursor} (e : run (to_arithmetic (μ + α) (take n ws)) tape p ≡ ran ys c) where
     converted : run (to_modulus Q μ (take n ws)) tape p ≡ run (after_convert Q μ α ys) tape c
     converted = part_ran _ _ tape p (whole_is Q μ ws most is) e
 
-    pub carries_ended : run (carries Q α 1 (2 ^ μ) ys) tape c ≡ ended → ended ≡ run (to_modulus Q μ (take n ws)) tape p
+    pub carries_ended : run (carries Q α 1 (2 ^ μ) ys) tape c ≡ ended → run (to_modulus Q μ (take n ws)) tape p ≡ ended
     unfolding after_convert
-    carries_ended f = sym (converted ∙ bind_ended (carries Q α 1 (2 ^ μ) ys) (taken_off Q μ α ys) tape c f)
+    carries_ended f = converted ∙ bind_ended (carries Q α 1 (2 ^ μ) ys) (taken_off Q μ α ys) tape c f
 
     pub switched : {es rs : List ℕ} {d : Cursor} → run (carries Q α 1 (2 ^ μ) ys) tape c ≡ ran es d → rs ≡ without Q (2 ^ (μ + α)) es ys →
-        ran rs d ≡ run (to_modulus Q μ (take n ws)) tape p
+        run (to_modulus Q μ (take n ws)) tape p ≡ ran rs d
     unfolding after_convert taken_off
     switched {es} {rs} {d} f g =
-        ap (λ xs. ran xs d) g
-        ∙ sym (converted ∙ bind_ran (carries Q α 1 (2 ^ μ) ys) (taken_off Q μ α ys) tape c es d f ∙ run_done (without Q (2 ^ (μ + α)) es ys) tape d)
+        sym (ap (λ xs. ran xs d) g
+        ∙ sym (converted ∙ bind_ran (carries Q α 1 (2 ^ μ) ys) (taken_off Q μ α ys) tape c es d f ∙ run_done (without Q (2 ^ (μ + α)) es ys) tape d))

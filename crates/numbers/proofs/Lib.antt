@@ -5,6 +5,7 @@ pub mod WordsLaws
 pub mod FoldLaws
 pub mod BitsLaws
 pub mod AlongLaws
+pub mod MadeLaws
 pub mod SumLaws
 pub mod CentredLaws
 pub mod PrimeLaws

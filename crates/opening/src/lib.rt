@@ -13,8 +13,8 @@ pub fn opened(shares: [u32; Params::MOST], n: usize, m: u32) -> u32
     ensures { result ≡ value (arithmetic m) (take n shares) }
 {
     let mut sum = 0u32;
-    for i in 0..n {
-        sum = add_mod(sum, shares[i], m);
+    for share in &shares[..n] {
+        sum = add_mod(sum, *share, m);
     }
     sum
 }

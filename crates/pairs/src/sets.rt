@@ -1,51 +1,26 @@
-// Parameter sets and kinds, right and wrong.
-use super::Pair;
+// Parameter sets and kinds, right and wrong. They are numbers, as the gadgets take them, since wrong ones are tried too.
+use super::{Pair, Round};
 
-pub fn known(i: u32) -> u32 {
-    match i % 3 {
-        0 => 44,
-        1 => 65,
-        _ => 87,
-    }
-}
+pub const SETS: [u32; 3] = [44, 65, 87];
 
 // Numbers that are no parameter set, some of them one in fewer bits.
-fn no_set(i: u32) -> u32 {
-    match i % 12 {
-        0 => 0,
-        1 => 1,
-        2 => 43,
-        3 => 45,
-        4 => 64,
-        5 => 66,
-        6 => 86,
-        7 => 88,
-        8 => 300,
-        9 => 65601,
-        10 => 2147483735,
-        _ => 4294967295,
-    }
-}
+const NO_SETS: [u32; 12] = [
+    0, 1, 43, 45, 64, 66, 86, 88, 300, 65601, 2147483735, 4294967295,
+];
 
 // Numbers that are no kind, some of them one in fewer bits.
-fn no_kind(i: u32) -> u32 {
-    match i % 6 {
-        0 => 0,
-        1 => 3,
-        2 => 257,
-        3 => 65538,
-        4 => 2147483649,
-        _ => 4294967295,
-    }
+const NO_KINDS: [u32; 6] = [0, 3, 257, 65538, 2147483649, 4294967295];
+
+fn known(i: u32) -> u32 {
+    SETS[(i % 3) as usize]
 }
 
-// A sampler's set.
-pub fn set(r: u32, x: u32) -> u32 {
-    match r % 8 {
-        6 => no_set(r / 8),
-        7 => x,
-        i => known(i),
-    }
+fn no_set(i: u32) -> u32 {
+    NO_SETS[(i % 12) as usize]
+}
+
+fn no_kind(i: u32) -> u32 {
+    NO_KINDS[(i % 6) as usize]
 }
 
 // One of the two is out of its range, by turns.
@@ -56,11 +31,22 @@ fn astray(turn: u32) -> Pair {
     Pair::of(no_set(turn / 2), turn / 2 % 2 + 1)
 }
 
-// The set and the kind of widening, the verdict, and Decompose, which reads the set alone.
-pub fn set_and_kind(r: u32, x: u32) -> Pair {
-    match r % 8 {
-        6 => astray(r / 8),
-        7 => Pair::of(known(x), x / 3 % 4),
-        i => Pair::of(known(i), i % 2 + 1),
+impl Round {
+    // A sampler's set.
+    pub fn set(self) -> u32 {
+        match self.r % 8 {
+            6 => no_set(self.r / 8),
+            7 => self.x,
+            i => known(i),
+        }
+    }
+
+    // The set and the kind of widening, the verdict, and Decompose, which reads the set alone.
+    pub fn set_and_kind(self) -> Pair {
+        match self.r % 8 {
+            6 => astray(self.r / 8),
+            7 => Pair::of(known(self.x), self.x / 3 % 4),
+            i => Pair::of(known(i), i % 2 + 1),
+        }
     }
 }

@@ -1,4 +1,4 @@
--- What gadgets may ask of a parameter set: each holds of all three sets (`set_laws`), and a gadget goes by these alone and by no set's numbers.
+-- What gadgets may ask of a parameter set: each holds of every value of its type (`kind_laws`, `set_laws`), and a gadget goes by these alone and by no set's numbers.
 use Rattle.std.specs.Prelude.{◌≡◌, ◌+◌, ◌-◌, ◌*◌, ◌^◌, ◌≤◌, ◌<◌}
 use Rattle.numbers.specs.Modulo.{q}
 use Rattle.params.specs.declared.Bounds.{Bounds}

@@ -1,3 +1,3 @@
+pub mod Facts
 pub mod Sets
-pub mod Answers
 pub mod Laws

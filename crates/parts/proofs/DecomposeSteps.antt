@@ -16,8 +16,8 @@ use Rattle.params.specs.Laws.{Laws}
 use Rattle.params.proofs.RoomLaws.{half_below, multiple_below}
 use Rattle.tape.specs.declared.Cursor.{Cursor}
 use Rattle.tape.specs.Tape.{ended, ran}
-use Rattle.draws.specs.Draws.{next, run}
-use Rattle.draws.proofs.RunLaws.{run_bind, run_done, part_ran, part_ended, bind_parts}
+use Rattle.draws.specs.Draws.{bind, run}
+use Rattle.draws.proofs.RunLaws.{run_done, part_ran, part_ended, bind_parts}
 use Rattle.shares.specs.Sharing.{arithmetic, value}
 use Rattle.shares.specs.Refresh.{refresh}
 use Rattle.first.specs.First.{add_to_first}
@@ -38,24 +38,23 @@ count_room {p} l n =
     let e : 2 ^ alpha n ≤ 2 ^ (23 + alpha n) = pow_mono (omega arith) in
     omega (arith, (alpha_smallest n).holds, mul-le-mul_left (2 ^ (23 + alpha n)) l.parts_least)
 
--- shares of the high part, on the first n words of an array
-pub high_shares_is : {n t : ℕ} (p : Params) (ws tape : List ℕ) (c : Cursor) → 0 < n → n ≤ length ws → t ≡ high_shift n →
-    next (run (carries p.delta t (p.delta * 2 ^ t) q (take n (add_to_first (arithmetic q) p.gamma2 ws))) tape c) (λ xs d. run (refresh (arithmetic p.delta) xs) tape d)
-    ≡ run (high_shares p (take n ws)) tape c
+-- shares of the high part, on the first n words of an array: carries, and a refresh
+pub high_shares_is : {n t : ℕ} (p : Params) (ws : List ℕ) → 0 < n → n ≤ length ws → t ≡ high_shift n →
+    high_shares p (take n ws) ≡ bind (carries p.delta t (p.delta * 2 ^ t) q (take n (add_to_first (arithmetic q) p.gamma2 ws))) (refresh (arithmetic p.delta))
 unfolding high_shares
-high_shares_is {n} {t} p ws tape c pos most is =
+high_shares_is {n} {t} p ws pos most is =
     let same : high_shift (length (take n ws)) ≡ t = ap high_shift (length-take-le n ws most) ∙ sym is in
-    rw (same, added-take (arithmetic q) p.gamma2 n ws pos) (sym (run_bind _ (refresh (arithmetic p.delta)) tape c))
+    rw (same, added-take (arithmetic q) p.gamma2 n ws pos)
 
 -- the high part
 module _ (p : Params) (xs tape : List ℕ) (c : Cursor) where
-  pub shares_ended : run (high_shares p xs) tape c ≡ ended → ended ≡ run (high_part p xs) tape c
+  pub shares_ended : run (high_shares p xs) tape c ≡ ended → run (high_part p xs) tape c ≡ ended
   unfolding high_part
   shares_ended = part_ended _ _ tape c refl
 
-  pub opens : {hs : List ℕ} {d : Cursor} → run (high_shares p xs) tape c ≡ ran hs d → ran (value (arithmetic p.delta) hs) d ≡ run (high_part p xs) tape c
+  pub opens : {hs : List ℕ} {d : Cursor} → run (high_shares p xs) tape c ≡ ran hs d → run (high_part p xs) tape c ≡ ran (value (arithmetic p.delta) hs) d
   unfolding high_part
-  opens {hs} {d} e = sym (part_ran _ _ tape c refl e ∙ run_done (value (arithmetic p.delta) hs) tape d)
+  opens {hs} {d} e = part_ran _ _ tape c refl e ∙ run_done (value (arithmetic p.delta) hs) tape d
 
   -- what is opened is below δ
   pub high_below : 0 < p.delta → {high : ℕ} {d : Cursor} → run (high_part p xs) tape c ≡ ran high d → high < p.delta

@@ -9,19 +9,16 @@ ghost use Rattle.shares.specs.Arrays.{Held, Gave};
 ghost use Rattle.sizes.specs.Product.{begun, crossed, row, product};
 
 use params::Params;
-use shares::Shared;
-use tape::{Cursor, Draw};
+use shares::{Row, Shared};
+use std::array;
+use tape::Cursor;
 use words::{add_mod, mul_q, reduce_q};
 
 // l·r of each pair of words at one place.
 fn begun(l: [u32; Params::MOST], r: [u32; Params::MOST]) -> [u32; Params::MOST]
     ensures { result ≡ begun q l r }
 {
-    let mut words = l;
-    for i in 0..Params::MOST {
-        words[i] = mul_q(words[i], r[i]);
-    }
-    words
+    array::from_fn(|i| mul_q(l[i], r[i]))
 }
 
 // a·b + c·d − v mod q. q − v is added instead, so that nothing falls below 0.
@@ -49,7 +46,7 @@ fn crossed(
     words
 }
 
-// The pairs of share i with every later one.
+// The pairs of share i with every later one. A turn works on the places i and j at once, so places are counted.
 fn row(
     shares: [u32; Params::MOST],
     l: [u32; Params::MOST],
@@ -58,25 +55,21 @@ fn row(
     n: usize,
     cursor: Cursor,
     tape: &[u32],
-) -> Shared
+) -> Option<Shared>
     requires { (i < n) × Held 8 n q shares × Words 8 q l × Words 8 q r }
     ensures { Gave n q result (run (row q (take n l) (take n r) i (take n shares)) tape.now cursor) }
 {
     let mut words = shares;
     let mut cur = cursor;
     for j in i + 1..n {
-        let Draw::Got(v, next) = cur.draw(tape, Params::Q) else {
-            return Shared::ended();
+        let Some((v, next)) = cur.draw(tape, Params::Q) else {
+            return None;
         };
         let more = crossed(words, l, r, i, j, v);
         words = more;
         cur = next;
     }
-    Shared {
-        words,
-        cursor: cur,
-        ok: true,
-    }
+    Some(Row { words, cursor: cur })
 }
 
 pub fn product(
@@ -85,23 +78,16 @@ pub fn product(
     n: usize,
     cursor: Cursor,
     tape: &[u32],
-) -> Shared
+) -> Option<Shared>
     requires { Held 8 n q l × Words 8 q r }
     ensures { Gave n q result (run (product q (take n l) (take n r)) tape.now cursor) }
 {
-    let mut words = begun(l, r);
-    let mut cur = cursor;
+    let mut given = Row {
+        words: begun(l, r),
+        cursor,
+    };
     for i in 0..n {
-        let s = row(words, l, r, i, n, cur, tape);
-        if !s.ok {
-            return Shared::ended();
-        }
-        words = s.words;
-        cur = s.cursor;
+        given = row(given.words, l, r, i, n, given.cursor, tape)?;
     }
-    Shared {
-        words,
-        cursor: cur,
-        ok: true,
-    }
+    Some(given)
 }

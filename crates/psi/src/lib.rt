@@ -5,9 +5,10 @@ ghost use Rattle.std.specs.Prelude.{◌≡◌, ◌+◌, ◌-◌, ◌^◌, ◌<�
 ghost use Rattle.numbers.specs.Modulo.{add_mod};
 ghost use Rattle.numbers.specs.Lists.{Words};
 ghost use Rattle.shares.specs.Arrays.{Copied};
-ghost use Rattle.rules.specs.Psi.{psi, z_of, added};
+ghost use Rattle.rules.specs.Psi.{psi, psis, z_of, added};
 
 use params::Params;
+use std::array;
 use words::{add_mod, power};
 
 // Ψ(x,u). The remainder is by a power of two, so it compiles to a mask.
@@ -15,18 +16,22 @@ pub fn psi(x: u32, u: u32, k: u32) -> u32
     requires { k ≤ 31 }
     ensures { result ≡ psi k x u }
 {
-    std::num::wrapping_sub_u32(x ^ u, u) % power(k)
+    (x ^ u).wrapping_sub(u) % power(k)
 }
 
 // U: all shares but the first.
 pub fn u_of(shares: [u32; 9]) -> [u32; 9]
     ensures { Copied 9 (drop 1 shares) result }
 {
-    let mut words = [0u32; 9];
-    for i in 0..Params::MOST {
-        words[i] = shares[i + 1];
-    }
-    words
+    array::from_fn(|i| shares.get(i + 1).copied().unwrap_or(0))
+}
+
+// Ψ of x and each word.
+fn psis(x: u32, u: [u32; 9], k: u32) -> [u32; 9]
+    requires { k ≤ 31 }
+    ensures { result ≡ psis k x u }
+{
+    u.map(|y| psi(x, y, k))
 }
 
 // Z, of s shares that are x and then those of U.
@@ -35,12 +40,9 @@ pub fn z_of(x: u32, u: [u32; 9], s: usize, k: u32) -> [u32; 9]
     requires { k ≤ 31 }
     ensures { result ≡ z_of k s x u }
 {
-    let mut words = u;
-    for i in 0..9 {
-        words[i] = psi(x, words[i], k);
-    }
+    let mut words = psis(x, u, k);
     if s % 2 == 1 {
-        words[0] = words[0] ^ x;
+        words[0] ^= x;
     }
     words
 }
@@ -69,10 +71,5 @@ pub fn added(
     requires { (1 ≤ n) × (n ≤ 7) × (k ≤ 31) × Words 8 (2 ^ k) u × Words 8 (2 ^ k) z }
     ensures { Words 8 (2 ^ k) result × (take (n + 1) result ≡ added (2 ^ k) (take n u) (take n z)) }
 {
-    let last = n - 1;
-    let mut words = u;
-    for i in 0..Params::MOST {
-        words[i] = added_at(i, u, z, last, k);
-    }
-    words
+    array::from_fn(|i| added_at(i, u, z, n - 1, k))
 }

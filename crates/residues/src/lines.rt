@@ -1,18 +1,17 @@
 // The residues of a line.
 ghost use Rattle.std.specs.Prelude.{◌<◌, ◌≤◌};
 
-use super::tried::{Tally, tried};
+use super::line::Line;
 use trials::{gamma2, mix, step};
 
 // All residues, in two shares. Set 44 skips three words in ten, so 25 draws below δ times a power of two use some 36 words.
-fn all(set: u32) -> Tally {
+fn all(set: u32) -> Line {
+    let mut line = Line::start(set, 2);
     let mut tape = [0u32; 96];
-    let mut t = Tally::start(mix(2, set));
     for r in 0..8380417 {
-        let next = tried(t, set, 2, r, &mut tape);
-        t = next;
+        line.hold(r, &mut tape);
     }
-    t
+    line
 }
 
 // How many: nine around each of the 2δ multiples of γ2 below q − 1.
@@ -33,40 +32,32 @@ fn neighbour(set: u32, i: u32) -> u32
     (8380413 + i / 9 * gamma2(set) + i % 9) % 8380417
 }
 
-fn around(t: Tally, set: u32, n: usize, tape: &mut [u32]) -> Tally
-    requires { n ≤ 8 }
-{
-    let mut s = t;
-    for i in 0..count_around(set) {
-        let next = tried(s, set, n, neighbour(set, i), tape);
-        s = next;
+fn around(line: &mut Line, tape: &mut [u32]) {
+    for i in 0..count_around(line.set) {
+        line.hold(neighbour(line.set, i), tape);
     }
-    s
 }
 
-fn anywhere(t: Tally, set: u32, n: usize, tape: &mut [u32]) -> Tally
-    requires { n ≤ 8 }
-{
-    let mut s = t;
-    let mut x = mix(set, n as u32);
-    for i in 0..10000u32 {
+fn anywhere(line: &mut Line, tape: &mut [u32]) {
+    let mut x = mix(line.set, line.n as u32);
+    for _ in 0..10000u32 {
         x = step(x);
-        let next = tried(s, set, n, x % 8380417, tape);
-        s = next;
+        line.hold(x % 8380417, tape);
     }
-    s
 }
 
 // Eight shares use some 1900 words.
-fn some(set: u32, n: usize) -> Tally
+fn some(set: u32, n: usize) -> Line
     requires { n ≤ 8 }
 {
+    let mut line = Line::start(set, n);
     let mut tape = [0u32; 2560];
-    let t = around(Tally::start(mix(n as u32, set)), set, n, &mut tape);
-    anywhere(t, set, n, &mut tape)
+    around(&mut line, &mut tape);
+    anywhere(&mut line, &mut tape);
+    line
 }
 
-pub fn tally(set: u32, n: usize) -> Tally
+pub fn tried(set: u32, n: usize) -> Line
     requires { n ≤ 8 }
 {
     if n == 2 {

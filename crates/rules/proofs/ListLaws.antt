@@ -3,28 +3,27 @@ use mathlib.Core.Path.{◌≡◌, refl, sym, ap, ap₂, ◌∙◌}
 use mathlib.Core.Bool.{Bool, true, false}
 use mathlib.Core.List.{List, [], ◌∷◌, ◌++◌, append_assoc}
 use Prim.Native.Nat.{ℕ, ◌+◌, ◌-◌, ◌%◌, ◌^◌, ◌≤◌, ◌<◌}
-use native.Mathlib.Nat.{mod-lt}
+use native.Mathlib.Nat.{mod-lt, mod-eq_of_lt}
 use native.Mathlib.Numerals.{add-one}
 use native.Mathlib.Omega.{arith}
 use native.Mathlib.Decide.{dec_lt, ℕ_discrete}
 use lib.ListN.{length, get_or, set, take}
 use lib.Dec.{eqb}
 use lib.Pow.{pow_pos}
-use lib.Seq.{take-suc, get_or-take, length-take-le, get_or-set_same, get_or-set_other}
+use lib.Seq.{take-suc, get_or-take, length-take-le}
 use borrow.Author.Tests.{eq-eqb, ne_eqb}
 use Rattle.numbers.specs.Tests.{pick}
 use Rattle.numbers.specs.Modulo.{add_mod, sub_mod, xor}
 use Rattle.numbers.specs.Lists.{Words, change, along}
-use Rattle.numbers.proofs.Cong.{cong_eq, cong_mod, cong_sym, ◌⨾◌}
-use Rattle.numbers.proofs.GroupLaws.{sub_only}
 use Rattle.numbers.proofs.XorLaws.{xor_below}
-use Rattle.numbers.proofs.WordsLaws.{words_at, words_set, words_change, take-change}
+use Rattle.numbers.proofs.WordsLaws.{words_at, words_change, take-change}
 use Rattle.numbers.proofs.AlongLaws.{along_is, take-along, words_along}
 use Rattle.rules.specs.Psi.{psi, psis, z_of, added}
 
--- ---- Ψ: what the wrapping subtraction gives is the difference modulo 2^32
-pub wraps : {r : ℕ} (a b : ℕ) → r < 2 ^ 32 → (r + b) % 2 ^ 32 ≡ a → r ≡ sub_mod (2 ^ 32) a b
-wraps a b h e = sub_only b h (cong_sym cong_mod ⨾ cong_eq e)
+-- ---- Ψ: what the wrapping subtraction of a word gives is the difference modulo 2^32
+pub wraps : (a : ℕ) {b : ℕ} → b < 2 ^ 32 → (a + (2 ^ 32 - b)) % 2 ^ 32 ≡ sub_mod (2 ^ 32) a b
+unfolding sub_mod
+wraps a {b} h = ap (λ (c : ℕ). (a + (2 ^ 32 - c)) % 2 ^ 32) (sym (mod-eq_of_lt h))
 
 pub psi_below : (k x u : ℕ) → psi k x u < 2 ^ k
 unfolding psi
@@ -75,33 +74,26 @@ adds M zs j u = add_mod M u (get_or zs j 0)
 abbrev pub Added : (M last : ℕ) (us zs : List ℕ) (i v : ℕ) → Type 0
 Added M last us zs i v = (i < last → v ≡ add_mod M (get_or us i 0) (get_or zs i 0)) × (i ≡ last → v ≡ get_or us i 0) × (last < i → v ≡ get_or zs (i - 1) 0)
 
--- at turn i, the words before i are so
-pub record Adding (M last : ℕ) (us zs : List ℕ) (i : ℕ) (ws : List ℕ) : Type 0 where
-  pub all : Words 8 M ws
-  pub before : (j : ℕ) → j < i → Added M last us zs j (get_or ws j 0)
-
-module _ {M last : ℕ} {us zs : List ℕ} where
-  pub adding_start : {ws : List ℕ} → Words 8 M ws → Adding M last us zs 0 ws
-  adding_start w = record { all = w; before = λ j h. absurd (omega arith) }
-
-  pub adding_more : {i v : ℕ} {ws : List ℕ} → Adding M last us zs i ws → i < 8 → 0 < M → Words 8 M us → Words 8 M zs → Added M last us zs i v → Adding M last us zs (i + 1) (set ws i v)
+module _ (M last : ℕ) (us zs : List ℕ) where
+  -- a word that is so is below M
+  added_small : {i v : ℕ} → i < 8 → 0 < M → Words 8 M us → Words 8 M zs → Added M last us zs i v → v < M
   unfolding add_mod
-  adding_more {i} {v} {ws} a room h u z e = record { all = words_set a.all i (small (dec_lt i last) (ℕ_discrete i last)); before = λ j l. go j l (ℕ_discrete j i) }
+  added_small {i} {v} room h u z e = small (dec_lt i last) (ℕ_discrete i last)
     where
       small : Dec (i < last) → Dec (i ≡ last) → v < M
       small (yes l) t = rw (e.0 l) (mod-lt _ h)
       small (no l) (yes t) = rw (e.1 t) (words_at h u i)
       small (no l) (no t) = rw (e.2 (omega (arith, l, t))) (words_at h z (i - 1))
 
-      go : (j : ℕ) → j < i + 1 → Dec (j ≡ i) → Added M last us zs j (get_or (set ws i v) j 0)
-      go j l (yes f) = let g : get_or (set ws i v) i 0 ≡ v = get_or-set_same ws i v 0 (omega (arith, a.all.size)) in rw (f, g) e
-      go j l (no f) = rw (get_or-set_other ws i j v 0 f) (a.before j (omega (arith, f)))
+  -- an array whose words all are so
+  pub added_words : (ws : List ℕ) → length ws ≡ 8 → 0 < M → Words 8 M us → Words 8 M zs → ((j : ℕ) → j < 8 → Added M last us zs j (get_or ws j 0)) → Words 8 M ws
+  added_words ws size h u z a = record { size = size; below = λ j l. added_small l h u z (a j l) }
 
-  pub adding_all : {i n : ℕ} {ws : List ℕ} → Adding M last us zs i ws → 8 ≤ i → n ≡ last + 1 → n ≤ 7 → length us ≡ 8 → take (n + 1) ws ≡ added M (take n us) (take n zs)
+  pub added_take : {n : ℕ} (ws : List ℕ) → length ws ≡ 8 → ((j : ℕ) → j < 8 → Added M last us zs j (get_or ws j 0)) → n ≡ last + 1 → n ≤ 7 → length us ≡ 8 → take (n + 1) ws ≡ added M (take n us) (take n zs)
   unfolding added
-  adding_all {i} {n} {ws} a end one room size =
-      ap (λ (k : ℕ). take k ws) (add-one n) ∙ take-suc ws n 0 (omega (arith, a.all.size))
-      ∙ ap (λ (l : List ℕ). l ++ (get_or ws n 0 ∷ [])) (ap (λ (k : ℕ). take k ws) (one ∙ add-one last) ∙ take-suc ws last 0 (omega (arith, a.all.size)))
+  added_take {n} ws whole a one room size =
+      ap (λ (k : ℕ). take k ws) (add-one n) ∙ take-suc ws n 0 (omega (arith, whole))
+      ∙ ap (λ (l : List ℕ). l ++ (get_or ws n 0 ∷ [])) (ap (λ (k : ℕ). take k ws) (one ∙ add-one last) ∙ take-suc ws last 0 (omega (arith, whole)))
       ∙ append_assoc (take last ws) (get_or ws last 0 ∷ []) (get_or ws n 0 ∷ [])
       ∙ rw (length-take-le n us (omega arith), fewer, sums, u, z)
     where
@@ -113,14 +105,14 @@ module _ {M last : ℕ} {us zs : List ℕ} where
 
       at : (j : ℕ) → j < last → get_or (take last ws) j 0 ≡ adds M (take n zs) j (get_or (take last (take n us)) j 0)
       at j l =
-          get_or-take last ws j 0 l ∙ (a.before j (omega arith)).0 l
+          get_or-take last ws j 0 l ∙ (a j (omega arith)).0 l
           ∙ sym (ap₂ (add_mod M) (get_or-take last (take n us) j 0 l ∙ get_or-take n us j 0 (omega arith)) (get_or-take n zs j 0 (omega arith)))
 
       sums : take last ws ≡ along (adds M (take n zs)) (take last (take n us))
-      sums = along_is _ (take last (take n us)) (take last ws) (length-take-le last ws (omega (arith, a.all.size)) ∙ sym front) (λ j l. at j (omega (arith, front)))
+      sums = along_is _ (take last (take n us)) (take last ws) (length-take-le last ws (omega (arith, whole)) ∙ sym front) (λ j l. at j (omega (arith, front)))
 
       u : get_or ws last 0 ≡ get_or (take n us) last 0
-      u = (a.before last (omega arith)).1 refl ∙ sym (get_or-take n us last 0 (omega arith))
+      u = (a last (omega arith)).1 refl ∙ sym (get_or-take n us last 0 (omega arith))
 
       z : get_or ws n 0 ≡ get_or (take n zs) last 0
-      z = (a.before n (omega arith)).2 (omega arith) ∙ ap (λ (k : ℕ). get_or zs k 0) fewer ∙ sym (get_or-take n zs last 0 (omega arith))
+      z = (a n (omega arith)).2 (omega arith) ∙ ap (λ (k : ℕ). get_or zs k 0) fewer ∙ sym (get_or-take n zs last 0 (omega arith))

@@ -1,6 +1,5 @@
 -- Laws of the rule in arrays of nine words, and of the zero share that is appended.
 use mathlib.Core.Path.{◌≡◌, sym, ap, ap₂, subst, ◌∙◌}
-use mathlib.Core.Bool.{Bool}
 use mathlib.Core.List.{List, [], ◌∷◌, ◌++◌}
 use Prim.Native.Nat.{ℕ, suc, ◌+◌, ◌-◌, ◌^◌, ◌≤◌, ◌<◌}
 use native.Mathlib.Numerals.{add-one}
@@ -12,8 +11,10 @@ use Rattle.numbers.specs.Lists.{Words, along}
 use Rattle.numbers.proofs.WordsLaws.{words_take, words_drop, words_set, take_rest}
 use Rattle.tape.specs.declared.Cursor.{Cursor}
 use Rattle.draws.specs.Draws.{run}
-use Rattle.shares.specs.Arrays.{Held, Copied, Given}
-use Rattle.shares.proofs.ArraysLaws.{copied_take, held_copied, given_as}
+use Rattle.std.specs.Prelude.{Option}
+use Rattle.shares.specs.declared.Row.{Row}
+use Rattle.shares.specs.Arrays.{Held, Copied, Gave}
+use Rattle.shares.proofs.ArraysLaws.{copied_take, held_copied, gave_as}
 use Rattle.rules.specs.Psi.{z_of, added}
 use Rattle.rules.specs.Rule.{rule}
 use Rattle.rules.proofs.RuleLaws.{listed, three_held}
@@ -29,13 +30,13 @@ module _ {s : ℕ} (k : ℕ) {ws : List ℕ} (a : Held 9 s (2 ^ k) ws) (e : s �
   pub three_asked : Held 3 3 (2 ^ k) (get_or ws 0 0 ∷ get_or ws 1 0 ∷ get_or ws 2 0 ∷ [])
   three_asked = three_held a.two (subst (Words 3 (2 ^ k)) three_listed (words_take 3 (omega arith) a.all))
 
-  pub rule_three : (tape : List ℕ) (p : Cursor) {ok : Bool} {words : List ℕ} {c : Cursor} → Given 8 2 (2 ^ k) ok words c (run (rule k 1 (get_or ws 0 0 ∷ get_or ws 1 0 ∷ get_or ws 2 0 ∷ [])) tape p) →
-      Given 8 (s - 1) (2 ^ k) ok words c (run (rule k (s - 2) (take s ws)) tape p)
-  rule_three tape p g = rw e (given_as g (ap (λ xs. run (rule k 1 xs) tape p) (sym three_listed)))
+  pub rule_three : (tape : List ℕ) (p : Cursor) (r : Option (Row 8)) → Gave 2 (2 ^ k) r (run (rule k 1 (get_or ws 0 0 ∷ get_or ws 1 0 ∷ get_or ws 2 0 ∷ [])) tape p) →
+      Gave (s - 1) (2 ^ k) r (run (rule k (s - 2) (take s ws)) tape p)
+  rule_three tape p r g = rw e (gave_as 2 (2 ^ k) r g (ap (λ xs. run (rule k 1 xs) tape p) (sym three_listed)))
 
-pub rule_four : {s : ℕ} (k : ℕ) (ws tape : List ℕ) (p : Cursor) {ok : Bool} {words : List ℕ} {c : Cursor} → s ≡ 4 →
-    Given 8 3 (2 ^ k) ok words c (run (rule k 2 (take 4 ws)) tape p) → Given 8 (s - 1) (2 ^ k) ok words c (run (rule k (s - 2) (take s ws)) tape p)
-rule_four k ws tape p e g = rw e g
+pub rule_four : {s : ℕ} (k : ℕ) (ws tape : List ℕ) (p : Cursor) (r : Option (Row 8)) → s ≡ 4 →
+    Gave 3 (2 ^ k) r (run (rule k 2 (take 4 ws)) tape p) → Gave (s - 1) (2 ^ k) r (run (rule k (s - 2) (take s ws)) tape p)
+rule_four k ws tape p r e g = rw e g
 
 -- U and Z are held as the shares were
 pub held_shorter : {s M : ℕ} {ws others : List ℕ} → Held 9 s M ws → 3 ≤ s → Words 9 M others → Held 9 (s - 1) M others
@@ -78,13 +79,13 @@ module _ {n : ℕ} (k : ℕ) {ws w : List ℕ} (a : Held 8 n (2 ^ k) ws) (c : Co
       ap (λ (j : ℕ). take j (set w n 0)) (add-one n) ∙ take-suc-set w n 0 (omega (arith, a.most))
       ∙ ap (λ (l : List ℕ). l ++ (0 ∷ [])) (copied_take n c (omega (arith, a.most, a.all.size)))
 
-  pub zero_gave : (tape : List ℕ) (p : Cursor) {ok : Bool} {words : List ℕ} {d : Cursor} →
-      Given 8 (n + 1 - 1) (2 ^ k) ok words d (run (rule k (n + 1 - 2) (take (n + 1) (set w n 0))) tape p) →
-      Given 8 n (2 ^ k) ok words d (run (to_arithmetic k (take n ws)) tape p)
+  pub zero_gave : (tape : List ℕ) (p : Cursor) (r : Option (Row 8)) →
+      Gave (n + 1 - 1) (2 ^ k) r (run (rule k (n + 1 - 2) (take (n + 1) (set w n 0))) tape p) →
+      Gave n (2 ^ k) r (run (to_arithmetic k (take n ws)) tape p)
   unfolding to_arithmetic
-  zero_gave tape p {ok} {words} {d} g =
+  zero_gave tape p r g =
       let size : length (take n ws) ≡ n = length-take-le n ws (omega (arith, a.most, a.all.size)) in
       let one : n + 1 - 1 ≡ n = omega arith in
       let fewer : n + 1 - 2 ≡ length (take n ws) - 1 = omega arith in
-      subst (λ (j : ℕ). Given 8 j (2 ^ k) ok words d (run (to_arithmetic k (take n ws)) tape p)) one
-      (given_as g (ap₂ (λ (j : ℕ) (xs : List ℕ). run (rule k j xs) tape p) fewer zero_is))
+      subst (λ (j : ℕ). Gave j (2 ^ k) r (run (to_arithmetic k (take n ws)) tape p)) one
+      (gave_as (n + 1 - 1) (2 ^ k) r g (ap₂ (λ (j : ℕ) (xs : List ℕ). run (rule k j xs) tape p) fewer zero_is))

@@ -1,6 +1,5 @@
 -- Laws of the rule, as the code goes through it: where the tape ends, and what the results of U and Z give.
 use mathlib.Core.Path.{◌≡◌, refl, sym, ap, ap₂, ◌∙◌}
-use mathlib.Core.Bool.{true}
 use mathlib.Core.List.{List, [], ◌∷◌}
 use Prim.Native.Nat.{ℕ, suc, ◌^◌, ◌≤◌, ◌<◌}
 use native.Mathlib.Nat.{mod-lt}
@@ -14,18 +13,13 @@ use Rattle.numbers.proofs.XorLaws.{xor_below}
 use Rattle.numbers.proofs.WordsLaws.{words_head, words_cons, words_same}
 use Rattle.numbers.proofs.AlongLaws.{along_is}
 use Rattle.tape.specs.declared.Cursor.{Cursor}
-use Rattle.tape.specs.declared.Draw.{Draw}
-use Rattle.tape.specs.declared.Draw.TheVariants.{Got, Ended}
 use Rattle.tape.specs.Tape.{Ran, ended, ran, draw_at}
-use Rattle.tape.specs.Answers.{draw_stands_for}
-use Rattle.tape.proofs.DrawLaws.{got, got_none}
 use Rattle.draws.specs.Draws.{Draws, done, draw, run, bind, turns, each}
 use Rattle.draws.proofs.RunLaws.{run_done, run_draw, run_ended, bind_ran, bind_ended, part_ran, part_ended}
 use Rattle.draws.proofs.PlanLaws.{always_run}
 use Rattle.shares.specs.Sharing.{boolean, move}
 use Rattle.shares.specs.Refresh.{turn, refresh}
-use Rattle.shares.specs.Arrays.{Held, Given}
-use Rattle.shares.proofs.ArraysLaws.{whole}
+use Rattle.shares.specs.Arrays.{Held}
 use Rattle.shares.proofs.RefreshLaws.{refresh_keeps}
 use Rattle.rules.specs.Psi.{psi, psis, z_of, added}
 use Rattle.rules.specs.Rule.{rule}
@@ -47,33 +41,33 @@ module _ (k : ℕ) {i j : ℕ} (one : i ≡ suc j) where
   rule_is xs = ap (λ (n : ℕ). rule k n xs) one
 
   module _ (xs tape : List ℕ) (p : Cursor) where
-    pub refresh_ended : run (refresh (boolean k) xs) tape p ≡ ended → ended ≡ run (rule k i xs) tape p
+    pub refresh_ended : run (refresh (boolean k) xs) tape p ≡ ended → run (rule k i xs) tape p ≡ ended
     refresh_ended = part_ended _ _ tape p (rule_is xs)
 
     module _ (ys : List ℕ) {c : Cursor} (e : run (refresh (boolean k) xs) tape p ≡ ran ys c) where
       refreshed : run (rule k i xs) tape p ≡ run (after-refresh ys) tape c
       refreshed = part_ran _ _ tape p (rule_is xs) e
 
-      pub u_ended : run (rule k j (drop 1 ys)) tape c ≡ ended → ended ≡ run (rule k i xs) tape p
+      pub u_ended : run (rule k j (drop 1 ys)) tape c ≡ ended → run (rule k i xs) tape p ≡ ended
       unfolding after-refresh
-      u_ended f = sym (refreshed ∙ bind_ended (rule k j (drop 1 ys)) (after_u ys) tape c f)
+      u_ended f = refreshed ∙ bind_ended (rule k j (drop 1 ys)) (after_u ys) tape c f
 
       module _ {us : List ℕ} {d : Cursor} (f : run (rule k j (drop 1 ys)) tape c ≡ ran us d) where
         after_first : run (rule k i xs) tape p ≡ run (after_u ys us) tape d
         unfolding after-refresh
         after_first = refreshed ∙ bind_ran (rule k j (drop 1 ys)) (after_u ys) tape c us d f
 
-        pub z_ended : run (rule k j (z_of k (length ys) (get_or ys 0 0) (drop 1 ys))) tape d ≡ ended → ended ≡ run (rule k i xs) tape p
+        pub z_ended : run (rule k j (z_of k (length ys) (get_or ys 0 0) (drop 1 ys))) tape d ≡ ended → run (rule k i xs) tape p ≡ ended
         unfolding after_u
-        z_ended g = sym (after_first ∙ bind_ended (rule k j (z_of k (length ys) (get_or ys 0 0) (drop 1 ys))) (after_z us) tape d g)
+        z_ended g = after_first ∙ bind_ended (rule k j (z_of k (length ys) (get_or ys 0 0) (drop 1 ys))) (after_z us) tape d g
 
         -- both results are there
         pub rule_gave : {zs rs : List ℕ} {o : Cursor} → run (rule k j (z_of k (length ys) (get_or ys 0 0) (drop 1 ys))) tape d ≡ ran zs o → rs ≡ added (2 ^ k) us zs →
-            ran rs o ≡ run (rule k i xs) tape p
+            run (rule k i xs) tape p ≡ ran rs o
         unfolding after_u after_z
         rule_gave {zs} {rs} {o} g h =
-            ap (λ ws. ran ws o) h
-            ∙ sym (after_first ∙ bind_ran (rule k j (z_of k (length ys) (get_or ys 0 0) (drop 1 ys))) (after_z us) tape d zs o g ∙ run_done (added (2 ^ k) us zs) tape o)
+            (after_first ∙ bind_ran (rule k j (z_of k (length ys) (get_or ys 0 0) (drop 1 ys))) (after_z us) tape d zs o g ∙ run_done (added (2 ^ k) us zs) tape o)
+            ∙ ap (λ ws. ran ws o) (sym h)
 
 -- what the rule gives of shares, it gives of the same shares
 pub same_shares : (k j : ℕ) (tape : List ℕ) (c : Cursor) {xs ys : List ℕ} {x : Ran (List ℕ)} → xs ≡ ys → run (rule k j xs) tape c ≡ x → run (rule k j ys) tape c ≡ x
@@ -84,12 +78,12 @@ same_shares k j tape c e f = ap (λ zs. run (rule k j zs) tape c) (sym e) ∙ f
 pub record Left (x : Ran (List ℕ)) (d : Draws (List ℕ)) (tape : List ℕ) (p : Cursor) : Type 0 where
   pub same : x ≡ run d tape p
 
-module _ {x : Ran (List ℕ)} {M : ℕ} {f : ℕ → Draws (List ℕ)} {tape : List ℕ} {p : Cursor} (l : Left x (draw M f) tape p) (d : Draw) (told : draw_stands_for d ≡ draw_at tape p M) where
-  pub draw_ended : d ≡ Ended → x ≡ ended
-  draw_ended e = l.same ∙ run_ended M f tape p (got_none d told e)
+module _ {x : Ran (List ℕ)} {M : ℕ} {f : ℕ → Draws (List ℕ)} {tape : List ℕ} {p : Cursor} (l : Left x (draw M f) tape p) where
+  pub draw_ended : ended ≡ draw_at tape p M → x ≡ ended
+  draw_ended e = l.same ∙ run_ended M f tape p (sym e)
 
-  pub drew : {r : ℕ} {q : Cursor} → d ≡ Got r q → Left x (f r) tape q
-  drew e = record { same = l.same ∙ run_draw M f tape p _ _ (got d told e) }
+  pub drew : {r : ℕ} {q : Cursor} → ran r q ≡ draw_at tape p M → Left x (f r) tape q
+  drew {r} {q} e = record { same = l.same ∙ run_draw M f tape p r q (sym e) }
 
 pub refresh_three : (k a b c : ℕ) (tape : List ℕ) (p : Cursor) →
     Left (run (refresh (boolean k) (a ∷ b ∷ c ∷ [])) tape p) (draw (2 ^ k) (λ r. draw (2 ^ k) (λ v. done (xor a r ∷ xor b v ∷ xor (xor c r) v ∷ [])))) tape p
@@ -123,15 +117,15 @@ unfolding rule z_of psis added along change bind run
 three_run k x y z xs tape p c e = bind_ran (refresh (boolean k) xs) _ tape p (x ∷ y ∷ z ∷ []) c e
 
 pub three_gave : (k : ℕ) (xs tape : List ℕ) (p : Cursor) {x y z : ℕ} {c : Cursor} → Words 3 (2 ^ k) xs → Left (run (refresh (boolean k) xs) tape p) (done (x ∷ y ∷ z ∷ [])) tape c →
-    {s t u w : ℕ} → s ≡ psi k x y → t ≡ psi k x z → u ≡ xor y z → w ≡ xor (xor s x) t → Given 8 2 (2 ^ k) true (u ∷ w ∷ replicate 6 0) c (run (rule k 1 xs) tape p)
+    {s t u w : ℕ} → s ≡ psi k x y → t ≡ psi k x z → u ≡ xor y z → w ≡ xor (xor s x) t → (run (rule k 1 xs) tape p ≡ ran (u ∷ w ∷ []) c) × Words 8 (2 ^ k) (u ∷ w ∷ replicate 6 0)
 three_gave k xs tape p {x} {y} {z} {c} a l es et eu ew =
     let e : run (refresh (boolean k) xs) tape p ≡ ran (x ∷ y ∷ z ∷ []) c = l.same ∙ run_done _ tape c in
-    let all : Words 3 (2 ^ k) (x ∷ y ∷ z ∷ []) = fresh_below 3 k xs tape p _ (omega arith) a e in
-    whole refl
-    (words_cons (rw eu (xor_below k y z (all.below 1 (omega arith)) (all.below 2 (omega arith))))
-    (words_cons (rw (ew, es, et) (xor_below k _ (psi k x z) (xor_below k (psi k x y) x (psi_below k x y) (words_head all)) (psi_below k x z)))
-    (words_same (pow_pos k))))
-    (rw (eu, ew, es, et) (sym (three_run k x y z xs tape p c e)))
+    let all : Words 3 (2 ^ k) (x ∷ y ∷ z ∷ []) = fresh_below 3 k xs tape p _ (omega arith) a e in (
+      rw (eu, ew, es, et) (three_run k x y z xs tape p c e),
+      words_cons (rw eu (xor_below k y z (all.below 1 (omega arith)) (all.below 2 (omega arith))))
+          (words_cons (rw (ew, es, et) (xor_below k _ (psi k x z) (xor_below k (psi k x y) x (psi_below k x y) (words_head all)) (psi_below k x z)))
+          (words_same (pow_pos k))),
+    )
 
 -- four shares, refreshed: Z, and two results of two words added
 pub four_z : (k x a b c : ℕ) {s t u : ℕ} → s ≡ psi k x a → t ≡ psi k x b → u ≡ psi k x c → s ∷ t ∷ u ∷ [] ≡ z_of k 4 x (a ∷ b ∷ c ∷ [])

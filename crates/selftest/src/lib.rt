@@ -4,23 +4,37 @@
 
 mod cases;
 
-ghost use Rattle.std.specs.Prelude.{◌≡◌, eqb};
-ghost use Rattle.numbers.specs.Tests.{pick};
+ghost use Rattle.std.specs.Prelude.{◌≡◌, ◌<◌, ◌^◌, length, not, position, flat_map};
 
 use cases::{bounds, conversions, counts, draws, offsets, parts, shifts, verdicts};
 
-// The first that is not 0 of two numbers.
-fn first(a: u32, b: u32) -> u32
-    ensures { result ≡ pick (eqb a 0) b a }
+// How many cases come before the first that came out wrong.
+fn before_wrong(groups: &[&[bool]]) -> Option<usize>
+    requires { length (flat_map (λ g. g.now) groups.now) < 2 ^ 64 }
+    ensures { result ≡ position not (flat_map (λ g. g.now) groups.now) }
 {
-    if a == 0 { b } else { a }
+    groups
+        .iter()
+        .flat_map(|group| group.iter())
+        .position(|right| !right)
 }
 
 // 0, or the number of the first case that came out wrong.
 pub fn self_test() -> u32
     ensures { result ≡ 0 }
 {
-    let steps = first(first(draws(), shifts()), first(conversions(), offsets()));
-    let values = first(first(parts(), verdicts()), first(counts(), bounds()));
-    first(steps, values)
+    let groups: [&[bool]; 8] = [
+        &draws(),
+        &shifts(),
+        &conversions(),
+        &offsets(),
+        &parts(),
+        &verdicts(),
+        &counts(),
+        &bounds(),
+    ];
+    match before_wrong(&groups) {
+        Some(before) => before as u32 + 1,
+        None => 0,
+    }
 }

@@ -19,13 +19,13 @@ pub record Looping (f : ℕ → List ℕ → Draws (List ℕ)) (top size n M : �
 module _ {f : ℕ → List ℕ → Draws (List ℕ)} {top size n M : ℕ} {tape : List ℕ} {x : Ran (List ℕ)} {i : ℕ} {words : List ℕ} {p : Cursor}
     (a : Looping f top size n M tape x i words p) where
   -- no turn is left
-  pub looping_done : top ≤ i → ran (take n words) p ≡ x
-  looping_done h = sym (each_done f i top (take n words) tape p h) ∙ a.same
+  pub looping_done : top ≤ i → x ≡ ran (take n words) p
+  looping_done h = sym a.same ∙ each_done f i top (take n words) tape p h
 
   module _ (h : i < top) where
     -- the tape has ended
-    pub looping_ended : run (f i (take n words)) tape p ≡ ended → ended ≡ x
-    looping_ended e = sym (each_ended f i top (take n words) tape p h e) ∙ a.same
+    pub looping_ended : run (f i (take n words)) tape p ≡ ended → x ≡ ended
+    looping_ended e = sym a.same ∙ each_ended f i top (take n words) tape p h e
 
     -- a turn gave other words
     pub looping_more : {others : List ℕ} {c : Cursor} → run (f i (take n words)) tape p ≡ ran (take n others) c → Words size M others → Looping f top size n M tape x (i + 1) others c

@@ -10,13 +10,9 @@ use Rattle.numbers.specs.Lists.{Words, change}
 use Rattle.numbers.proofs.WordsLaws.{words_set}
 use Rattle.numbers.proofs.AlongLaws.{along_is}
 use Rattle.tape.specs.declared.Cursor.{Cursor}
-use Rattle.tape.specs.declared.Draw.{Draw}
-use Rattle.tape.specs.declared.Draw.TheVariants.{Got, Ended}
 use Rattle.tape.specs.Tape.{Ran, ended, ran, draw_at}
-use Rattle.tape.specs.Answers.{draw_stands_for}
-use Rattle.tape.proofs.DrawLaws.{got, got_none}
 use Rattle.draws.specs.Draws.{each, run}
-use Rattle.draws.proofs.DrawnLaws.{got_below}
+use Rattle.draws.proofs.DrawnLaws.{draw_below}
 use Rattle.draws.proofs.RunLaws.{run_draw, run_ended, run_done, each_done, each_more, each_ended}
 use Rattle.shares.specs.Sharing.{Sharing, bound, plus, minus, move}
 use Rattle.shares.specs.Refresh.{turn, refresh}
@@ -49,19 +45,19 @@ module _ {s : Sharing} {size n : ℕ} {tape : List ℕ} {x : Ran (List ℕ)} {i 
   pub remaining_words : Words size (bound s) (set words (n - 1) last-share)
   remaining_words = (held-set a.held (n - 1) a.below).all
 
-  pub remaining_none : n - 1 ≤ i → ran (take n (set words (n - 1) last-share)) p ≡ x
-  remaining_none h = sym (each_done (turn s (n - 1)) i (n - 1) (take n (set words (n - 1) last-share)) tape p h) ∙ a.same
+  pub remaining_none : n - 1 ≤ i → x ≡ ran (take n (set words (n - 1) last-share)) p
+  remaining_none h = sym a.same ∙ each_done (turn s (n - 1)) i (n - 1) (take n (set words (n - 1) last-share)) tape p h
 
-  module _ (h : i < n - 1) (d : Draw) (told : draw_stands_for d ≡ draw_at tape p (bound s)) where
+  module _ (h : i < n - 1) where
     -- the tape has ended
-    pub remaining_ended : d ≡ Ended → ended ≡ x
+    pub remaining_ended : ended ≡ draw_at tape p (bound s) → x ≡ ended
     unfolding turn
     remaining_ended e =
-        sym (each_ended (turn s (n - 1)) i (n - 1) (take n (set words (n - 1) last-share)) tape p h (run_ended (bound s) _ tape p (got_none d told e))) ∙ a.same
+        sym a.same ∙ each_ended (turn s (n - 1)) i (n - 1) (take n (set words (n - 1) last-share)) tape p h (run_ended (bound s) _ tape p (sym e))
 
-    module _ {r : ℕ} {c : Cursor} (e : d ≡ Got r c) where
-      pub remaining_draw : r < bound s
-      remaining_draw = got_below d tape p (bound s) told e
+    module _ {r : ℕ} {c : Cursor} (e : ran r c ≡ draw_at tape p (bound s)) where
+      remaining_draw : r < bound s
+      remaining_draw = draw_below tape p e
 
       -- a turn with the last share in a local
       moved : {v w : ℕ} → v ≡ plus s (get_or words i 0) r → w ≡ minus s last-share r → set (set words i v) (n - 1) w ≡ move s (n - 1) i r (set words (n - 1) last-share)
@@ -87,39 +83,39 @@ module _ {s : Sharing} {size n : ℕ} {tape : List ℕ} {x : Ran (List ℕ)} {i 
             below = rw o (g.sub_below last-share r a.below remaining_draw);
             same =
                 sym (each_more (turn s (n - 1)) i (n - 1) (take n (set words (n - 1) last-share)) tape p h (take n y) c
-                (run_draw (bound s) _ tape p r c (got d told e) ∙ run_done _ tape c
+                (run_draw (bound s) _ tape p r c (sym e) ∙ run_done _ tape c
                 ∙ ap (λ (l : List ℕ). ran l c) (sym (ap (take n) (moved f o) ∙ move-take s (n - 1) i r (set words (n - 1) last-share) n (omega arith) (omega arith)))))
                 ∙ a.same;
           }
 
 -- the same where the refresh reads xs and writes ws: vs is what it would have made of xs in place
-pub record Writing (s : Sharing) (n : ℕ) (xs tape : List ℕ) (x : Ran (List ℕ)) (i : ℕ) (ws : List ℕ) (last-share : ℕ) (p : Cursor) : Type 0 where
+pub record Writing (s : Sharing) (size n : ℕ) (xs tape : List ℕ) (x : Ran (List ℕ)) (i : ℕ) (ws : List ℕ) (last-share : ℕ) (p : Cursor) : Type 0 where
   pub vs : List ℕ
-  pub left : Remaining s 8 n tape x i vs last-share p
-  pub all : Words 8 (bound s) ws
+  pub left : Remaining s size n tape x i vs last-share p
+  pub all : Words size (bound s) ws
   pub most : i ≤ n - 1
   pub written : (j : ℕ) → j < i → get_or ws j 0 ≡ get_or vs j 0
   pub since : (j : ℕ) → i ≤ j → get_or vs j 0 ≡ get_or xs j 0
 
-pub writing_start : (s : Sharing) (n : ℕ) (xs zs tape : List ℕ) (p : Cursor) → Held 8 n (bound s) xs → Words 8 (bound s) zs →
-    Writing s n xs tape (run (refresh s (take n xs)) tape p) 0 zs (get_or xs (n - 1) 0) p
-writing_start s n xs zs tape p h w =
-    record { vs = xs; left = remaining_start s 8 n xs tape p h; all = w; most = omega arith; written = λ j k. absurd (omega arith); since = λ j k. refl }
+pub writing_start : (s : Sharing) (size n : ℕ) (xs zs tape : List ℕ) (p : Cursor) → Held size n (bound s) xs → Words size (bound s) zs →
+    Writing s size n xs tape (run (refresh s (take n xs)) tape p) 0 zs (get_or xs (n - 1) 0) p
+writing_start s size n xs zs tape p h w =
+    record { vs = xs; left = remaining_start s size n xs tape p h; all = w; most = omega arith; written = λ j k. absurd (omega arith); since = λ j k. refl }
 
-module _ {s : Sharing} {n : ℕ} {xs tape : List ℕ} {x : Ran (List ℕ)} {i : ℕ} {ws : List ℕ} {last-share : ℕ} {p : Cursor} (a : Writing s n xs tape x i ws last-share p) where
-  room : n ≤ 8
+module _ {s : Sharing} {size n : ℕ} {xs tape : List ℕ} {x : Ran (List ℕ)} {i : ℕ} {ws : List ℕ} {last-share : ℕ} {p : Cursor} (a : Writing s size n xs tape x i ws last-share p) where
+  room : n ≤ size
   room = a.left.held.most
 
   least : 2 ≤ n
   least = a.left.held.least
 
-  pub writing_words : Words 8 (bound s) (set ws (n - 1) last-share)
+  pub writing_words : Words size (bound s) (set ws (n - 1) last-share)
   writing_words = words_set a.all (n - 1) a.left.below
 
   -- at the end the first n words are the same
-  pub writing_none : n - 1 ≤ i → ran (take n (set ws (n - 1) last-share)) p ≡ x
-  writing_none h = ap (λ (l : List ℕ). ran l p) (along_is (λ j y. y) (take n (set a.vs (n - 1) last-share)) (take n (set ws (n - 1) last-share)) (mine ∙ sym other) (λ j k. at j (omega (arith, other)) (ℕ_discrete j (n - 1)))
-      ∙ sym (along_is (λ j y. y) (take n (set a.vs (n - 1) last-share)) (take n (set a.vs (n - 1) last-share)) refl (λ j k. refl))) ∙ remaining_none a.left h
+  pub writing_none : n - 1 ≤ i → x ≡ ran (take n (set ws (n - 1) last-share)) p
+  writing_none h = remaining_none a.left h ∙ sym (ap (λ (l : List ℕ). ran l p) (along_is (λ j y. y) (take n (set a.vs (n - 1) last-share)) (take n (set ws (n - 1) last-share)) (mine ∙ sym other) (λ j k. at j (omega (arith, other)) (ℕ_discrete j (n - 1)))
+      ∙ sym (along_is (λ j y. y) (take n (set a.vs (n - 1) last-share)) (take n (set a.vs (n - 1) last-share)) refl (λ j k. refl))))
     where
       mine : length (take n (set ws (n - 1) last-share)) ≡ n
       mine = length-take-le n (set ws (n - 1) last-share) (omega (arith, length-set ws (n - 1) last-share, a.all.size, room))
@@ -136,8 +132,8 @@ module _ {s : Sharing} {n : ℕ} {xs tape : List ℕ} {x : Ran (List ℕ)} {i : 
           get_or-take n (set ws (n - 1) last-share) j 0 k ∙ get_or-set_other ws (n - 1) j last-share 0 e ∙ a.written j (omega (arith, e))
           ∙ sym (get_or-set_other a.vs (n - 1) j last-share 0 e) ∙ sym (get_or-take n (set a.vs (n - 1) last-share) j 0 k)
 
-  module _ (h : i < n - 1) (d : Draw) (told : draw_stands_for d ≡ draw_at tape p (bound s)) {r : ℕ} {c : Cursor} (e : d ≡ Got r c) where
-    pub writing_more : {v w : ℕ} → v ≡ plus s (get_or xs i 0) r → w ≡ minus s last-share r → Writing s n xs tape x (i + 1) (set ws i v) w c
+  module _ (h : i < n - 1) {r : ℕ} {c : Cursor} (e : ran r c ≡ draw_at tape p (bound s)) where
+    pub writing_more : {v w : ℕ} → v ≡ plus s (get_or xs i 0) r → w ≡ minus s last-share r → Writing s size n xs tape x (i + 1) (set ws i v) w c
     writing_more {v} {w} f o =
         record {
           vs = set a.vs i v;
@@ -148,8 +144,8 @@ module _ {s : Sharing} {n : ℕ} {xs tape : List ℕ} {x : Ran (List ℕ)} {i : 
           since = λ j k. get_or-set_other a.vs i j v 0 (omega arith) ∙ a.since j (omega arith);
         }
       where
-        more : Remaining s 8 n tape x (i + 1) (set a.vs i v) w c
-        more = remaining_more a.left h d told e (f ∙ ap (λ y. plus s y r) (sym (a.since i (omega arith)))) o
+        more : Remaining s size n tape x (i + 1) (set a.vs i v) w c
+        more = remaining_more a.left h e (f ∙ ap (λ y. plus s y r) (sym (a.since i (omega arith)))) o
 
         placed : get_or (set a.vs i v) i 0 ≡ v
         placed = get_or-set_same a.vs i v 0 (omega (arith, a.left.held.all.size, room))

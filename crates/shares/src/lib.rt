@@ -1,33 +1,20 @@
-// Shares in small arrays by value, n beside them: the refresh mod m, and what closes with it.
+// Shares in small arrays by value, n beside them: the two kinds of sharing, and the refresh, which closes every gadget.
 #![tactic(auto)]
 
-mod arithmetic;
-mod closing;
+mod kinds;
+mod refreshing;
 
-ghost use Rattle.std.specs.Prelude.{◌≡◌, false};
-
-pub use arithmetic::refresh;
-pub use closing::close;
+pub use kinds::{Arithmetic, Boolean, ShareKind};
 use params::Params;
+pub use refreshing::{close, refresh};
 use tape::Cursor;
 
-// What a gadget gives: its shares and the place of the next word, or, where `ok` is false, that the tape has ended.
+// What a step gives where the tape suffices: its shares, and the place of the next word.
 #[derive(Clone, Copy)]
-pub struct Shared {
-    pub words: [u32; Params::MOST],
+pub struct Row<const N: usize> {
+    pub words: [u32; N],
     pub cursor: Cursor,
-    pub ok: bool,
 }
 
-impl Shared {
-    // The tape has ended. No share is handed on, half refreshed or not.
-    pub fn ended() -> Self
-        ensures { result.ok ≡ false }
-    {
-        Shared {
-            words: [0u32; Params::MOST],
-            cursor: Cursor::start(),
-            ok: false,
-        }
-    }
-}
+// In an array of eight words, as all steps have them but the Boolean conversion, which appends a share.
+pub type Shared = Row<{ Params::MOST }>;

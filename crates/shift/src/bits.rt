@@ -5,6 +5,7 @@ ghost use Rattle.halves.specs.ToBoolean.{with_bit};
 ghost use Rattle.halves.specs.Halvings.{gathered};
 
 use params::Params;
+use std::array;
 use words::power;
 
 // Bit b of each word, from the parities of the arithmetic shares.
@@ -17,11 +18,7 @@ pub fn with_bit(
     ensures { result ≡ with_bit b shares words }
 {
     let place = power(b);
-    let mut out = words;
-    for i in 0..Params::MOST {
-        out[i] = out[i] + place * (shares[i] % 2);
-    }
-    out
+    array::from_fn(|i| words[i] + place * (shares[i] % 2))
 }
 
 pub fn gathered(

@@ -21,7 +21,7 @@ fn halvings(
     gathers: bool,
     cursor: Cursor,
     tape: &[u32],
-) -> Shared
+) -> Option<Shared>
     requires { (2 ≤ m) × (2 ^ t * m < 2 ^ 32) × Held 8 n (2 ^ t * m) shares }
     ensures { Gave n (halvings_bound gathers m t) result (run (halvings gathers m t (take n shares)) tape.now cursor) }
 {
@@ -38,7 +38,7 @@ pub fn shift_by(
     t: u32,
     cursor: Cursor,
     tape: &[u32],
-) -> Shared
+) -> Option<Shared>
     requires { (t ≤ 31) × (2 ≤ m) × (2 ^ t * m < 2 ^ 32) × Held 8 n (2 ^ t * m) shares }
     ensures { Gave n m result (run (shift m t (take n shares)) tape.now cursor) }
 {
@@ -51,7 +51,7 @@ pub fn to_boolean(
     k: u32,
     cursor: Cursor,
     tape: &[u32],
-) -> Shared
+) -> Option<Shared>
     requires { (1 ≤ k) × (k ≤ 31) × Held 8 n (2 ^ k) shares }
     ensures { Gave n (2 ^ k) result (run (to_boolean k (take n shares)) tape.now cursor) }
 {

@@ -7,7 +7,7 @@ ghost use Rattle.halves.specs.Halvings.{halvings, halvings_bound};
 use super::bits::{gathered, with_bit};
 use halving::halve;
 use params::Params;
-use shares::Shared;
+use shares::{Row, Shared};
 use tape::Cursor;
 use words::power;
 
@@ -19,32 +19,25 @@ pub fn of_many(
     gathers: bool,
     cursor: Cursor,
     tape: &[u32],
-) -> Shared
+) -> Option<Shared>
     requires { (2 ≤ m) × (2 ^ t * m < 2 ^ 32) × Held 8 n (2 ^ t * m) shares }
     ensures { Gave n (halvings_bound gathers m t) result (run (halvings gathers m t (take n shares)) tape.now cursor) }
 {
-    let mut words = shares;
+    let mut given = Row {
+        words: shares,
+        cursor,
+    };
     let mut bits = [0u32; Params::MOST];
     let mut modulus = power(t) * m;
-    let mut cur = cursor;
     for b in 0..t {
-        let more = gathered(gathers, bits, words, b);
+        let more = gathered(gathers, bits, given.words, b);
         modulus = modulus / 2;
-        let s = halve(words, n, modulus, cur, tape);
-        if !s.ok {
-            return Shared::ended();
-        }
+        given = halve(given.words, n, modulus, given.cursor, tape)?;
         bits = more;
-        words = s.words;
-        cur = s.cursor;
     }
     if gathers {
-        let all = with_bit(bits, words, t);
-        words = all;
+        let all = with_bit(bits, given.words, t);
+        given.words = all;
     }
-    Shared {
-        words,
-        cursor: cur,
-        ok: true,
-    }
+    Some(given)
 }

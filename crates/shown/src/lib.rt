@@ -1,100 +1,98 @@
-// What `cases` prints of single values: names and numbers, Decompose and the verdict on residues in shares, and the verdicts at the bounds.
+// What `cases` prints of single values: numbers, Decompose and the verdict on residues in shares, and the verdicts at the bounds.
 #![tactic(auto)]
 
-mod names;
+ghost use Rattle.std.specs.Prelude.{ℕ, ◌≤◌};
 
-ghost use Rattle.std.specs.Prelude.{◌≤◌};
-
-pub use names::name;
-use pairs::Pair;
+use answers::{on_words, on_zeros, sizes};
+use pairs::{Gadget, Pair, SETS};
 use std::io;
-use trials::low;
+use trials::minus;
 
-pub fn text(rt: &impl Print, s: &[u8]) -> io::Result<()> {
-    rt.write_all(s)
-}
-
-pub fn number(rt: &impl Print, x: u32) -> io::Result<()> {
-    print!(rt; " {x}")
-}
-
+// Each word after a space.
 pub fn numbers(rt: &impl Print, words: &[u32]) -> io::Result<()> {
-    for i in 0..words.len() {
-        number(rt, words[i])?;
+    for word in words {
+        print!(rt; " {word}")?;
     }
     Ok(())
 }
 
-// What a gadget answers on a residue in n shares.
-fn answered(rt: &impl Print, gadget: u32, residue: u32, n: usize) -> io::Result<()>
+fn decomposed_line(rt: &impl Print, residue: u32, n: usize) -> io::Result<()>
     requires { n ≤ 8 }
 {
-    if gadget == 10 {
-        let told = answers::decomposed(residue, n);
-        return numbers(rt, &[told.number, told.high, told.low]);
-    }
-    let told = answers::on_zeros(residue, n);
-    let used = low(told.used);
-    numbers(rt, &[told.number, told.verdict, told.opened, used])
+    let told = answers::decomposed(residue, n);
+    print!(rt; "{} {n} {residue}", Gadget::Decompose)?;
+    println!(rt; " {} {} {}", told.number, told.high, told.low)
 }
 
-fn shared_line(rt: &impl Print, gadget: u32, residue: u32, n: usize) -> io::Result<()>
+fn verdict_line(rt: &impl Print, residue: u32, n: usize) -> io::Result<()>
     requires { n ≤ 8 }
 {
-    name(rt, gadget)?;
-    numbers(rt, &[low(n), residue])?;
-    answered(rt, gadget, residue, n)?;
-    text(rt, b"\n")
+    let told = on_zeros(residue, n);
+    print!(rt; "{} {n} {residue}", Gadget::Verdict)?;
+    println!(rt;
+        " {} {} {} {}",
+        told.number, told.verdict, told.opened, told.used
+    )
 }
 
-fn shared_lines(rt: &impl Print, gadget: u32, residues: &[u32], n: usize) -> io::Result<()>
-    requires { n ≤ 8 }
+// The line of each residue in n shares.
+fn lines<F: Fn(u32, usize) -> io::Result<()>>(residues: &[u32], n: usize, line: F) -> io::Result<()>
+    requires { (residue : ℕ) → F.pre line residue n }
 {
-    for i in 0..residues.len() {
-        shared_line(rt, gadget, residues[i], n)?;
+    for residue in residues {
+        line(*residue, n)?;
     }
     Ok(())
 }
 
-fn shared_by_hand(rt: &impl Print, gadget: u32, residues: &[u32]) -> io::Result<()> {
+fn all_lines<F: Fn(u32, usize) -> io::Result<()>>(residues: &[u32], line: F) -> io::Result<()>
+    requires { (residue n : ℕ) → n ≤ 8 → F.pre line residue n }
+{
     for n in 2..9 {
-        shared_lines(rt, gadget, residues, n)?;
+        lines(residues, n, &line)?;
     }
     Ok(())
 }
 
 // Document 01's cases of Decompose, and those of the verdict: 130993 and 130994 of both signs, and 131150.
 pub fn in_shares(rt: &impl Print) -> io::Result<()> {
-    shared_by_hand(rt, 10, &[95232, 95233, 8380416, 8285185, 8285184])?;
-    shared_by_hand(rt, 11, &[130993, 8249424, 130994, 8249423, 131150])
+    let edges = [95232, 95233, 8380416, 8285185, 8285184];
+    all_lines(&edges, |residue, n| decomposed_line(rt, residue, n))?;
+    let bounds = [130993, 8249424, 130994, 8249423, 131150];
+    all_lines(&bounds, |residue, n| verdict_line(rt, residue, n))
+}
+
+// The verdict, or 9 for a refusal.
+fn verdict_on(rt: &impl Print, residue: u32, n: usize, p: Pair) -> io::Result<()>
+    requires { n ≤ 8 }
+{
+    print!(rt; " {}", on_words(residue, n, p).unwrap_or(9))
 }
 
 // The verdicts on four sizes, of both signs.
-fn sizes(rt: &impl Print, p: Pair, n: usize) -> io::Result<()>
+fn sizes_line(rt: &impl Print, p: Pair, n: usize) -> io::Result<()>
     requires { n ≤ 8 }
 {
-    for i in 0..4 {
-        let size = answers::size(i, p);
-        number(rt, answers::on_words(size, n, p))?;
-        number(rt, answers::on_words(8380417 - size, n, p))?;
+    print!(rt; "{} {} {} {n}", Gadget::Verdict, p.first, p.second)?;
+    for size in sizes(p) {
+        verdict_on(rt, size, n, p)?;
+        verdict_on(rt, minus(0, size, 8380417), n, p)?;
+    }
+    println!(rt; "")
+}
+
+fn sizes_lines(rt: &impl Print, p: Pair) -> io::Result<()> {
+    for n in 2..9 {
+        sizes_line(rt, p, n)?;
     }
     Ok(())
 }
 
-fn sizes_line(rt: &impl Print, p: Pair, n: usize) -> io::Result<()>
-    requires { n ≤ 8 }
-{
-    text(rt, b"verdict")?;
-    numbers(rt, &[p.first, p.second, low(n)])?;
-    sizes(rt, p, n)?;
-    text(rt, b"\n")
-}
-
 // For each set, for each kind, for 2 to 8 shares.
 pub fn all_sizes(rt: &impl Print) -> io::Result<()> {
-    for i in 0..42 {
-        let p = Pair::of(pairs::known(i / 14), i / 7 % 2 + 1);
-        sizes_line(rt, p, (i % 7 + 2) as usize)?;
+    for set in SETS {
+        sizes_lines(rt, Pair::of(set, 1))?;
+        sizes_lines(rt, Pair::of(set, 2))?;
     }
     Ok(())
 }

@@ -12,13 +12,9 @@ use Rattle.numbers.proofs.AlongLaws.{along_at, length-along, take-along}
 use Rattle.numbers.proofs.GroupLaws.{sums}
 use Rattle.numbers.proofs.WordsLaws.{words_at, words_change, take-change}
 use Rattle.tape.specs.declared.Cursor.{Cursor}
-use Rattle.tape.specs.declared.Draw.{Draw}
-use Rattle.tape.specs.declared.Draw.TheVariants.{Got, Ended}
 use Rattle.tape.specs.Tape.{Ran, ended, ran, draw_at}
-use Rattle.tape.specs.Answers.{draw_stands_for}
-use Rattle.tape.proofs.DrawLaws.{got, got_none}
 use Rattle.draws.specs.Draws.{each, run}
-use Rattle.draws.proofs.DrawnLaws.{got_below}
+use Rattle.draws.proofs.DrawnLaws.{draw_below}
 use Rattle.draws.proofs.RunLaws.{run_draw, run_ended, run_done}
 use Rattle.shares.specs.Arrays.{Held}
 use Rattle.shares.proofs.ArraysLaws.{held_of}
@@ -83,15 +79,15 @@ crossing_start {M} {n} ls rs i tape p {words} a e =
     }
 
 module _ {M n : ℕ} {ls rs : List ℕ} {i : ℕ} {tape : List ℕ} {x : Ran (List ℕ)} {j : ℕ} {words : List ℕ} {p : Cursor}
-    (a : Crossing M n ls rs i tape x j words p) (h : j < n) (d : Draw) (told : draw_stands_for d ≡ draw_at tape p M) where
+    (a : Crossing M n ls rs i tape x j words p) (h : j < n) where
   -- the tape has ended
-  pub crossing_ended : d ≡ Ended → ended ≡ x
+  pub crossing_ended : ended ≡ draw_at tape p M → x ≡ ended
   unfolding pair
-  crossing_ended e = looping_ended a.left h (run_ended M _ tape p (got_none d told e))
+  crossing_ended e = looping_ended a.left h (run_ended M _ tape p (sym e))
 
-  module _ {v : ℕ} {c : Cursor} (e : d ≡ Got v c) where
+  module _ {v : ℕ} {c : Cursor} (e : ran v c ≡ draw_at tape p M) where
     pub crossing_draw : v < M
-    crossing_draw = got_below d tape p M told e
+    crossing_draw = draw_below tape p e
 
     pub crossing_more : {others : List ℕ} → others ≡ crossed M ls rs i j v words → Crossing M n ls rs i tape x (j + 1) others c
     unfolding pair
@@ -100,7 +96,7 @@ module _ {M n : ℕ} {ls rs : List ℕ} {i : ℕ} {tape : List ℕ} {x : Ran (Li
           later = omega (arith, a.later);
           left =
               looping_more a.left h
-              (run_draw M _ tape p v c (got d told e) ∙ run_done _ tape c
+              (run_draw M _ tape p v c (sym e) ∙ run_done _ tape c
               ∙ ap (λ xs. ran xs c) (sym (ap (take n) f ∙ crossed-take M ls rs i j n v words (omega (arith, a.later)) h)))
               (rw f (crossed_words M ls rs i j v (omega (arith, a.left.held.two)) crossing_draw a.left.held.all));
         }

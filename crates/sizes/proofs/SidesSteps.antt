@@ -32,22 +32,22 @@ module _ {bounds : Bounds} (h : KindLaws bounds) where
 
 -- ---- both sides and their product
 module _ (bounds : Bounds) (ws tape : List ℕ) (p : Cursor) where
-  pub left_ended : run (side bounds ws) tape p ≡ ended → ended ≡ run (sides_product bounds ws) tape p
+  pub left_ended : run (side bounds ws) tape p ≡ ended → run (sides_product bounds ws) tape p ≡ ended
   unfolding sides_product
-  left_ended e = sym (bind_ended (side bounds ws) _ tape p e)
+  left_ended e = bind_ended (side bounds ws) _ tape p e
 
   module _ (left : List ℕ) {c : Cursor} (l : run (side bounds ws) tape p ≡ ran left c) where
-    pub right_ended : run (side bounds (negated (wide bounds) ws)) tape c ≡ ended → ended ≡ run (sides_product bounds ws) tape p
+    pub right_ended : run (side bounds (negated (wide bounds) ws)) tape c ≡ ended → run (sides_product bounds ws) tape p ≡ ended
     unfolding sides_product
-    right_ended e = sym (bind_ran (side bounds ws) _ tape p left c l ∙ bind_ended (side bounds (negated (wide bounds) ws)) _ tape c e)
+    right_ended e = bind_ran (side bounds ws) _ tape p left c l ∙ bind_ended (side bounds (negated (wide bounds) ws)) _ tape c e
 
     module _ (right : List ℕ) {d : Cursor} (r : run (side bounds (negated (wide bounds) ws)) tape c ≡ ran right d) where
       to_refresh : run (sides_product bounds ws) tape p ≡ run (bind (refresh (arithmetic q) left) (λ fresh. product q fresh right)) tape d
       unfolding sides_product
       to_refresh = bind_ran (side bounds ws) _ tape p left c l ∙ bind_ran (side bounds (negated (wide bounds) ws)) _ tape c right d r
 
-      pub fresh_ended : run (refresh (arithmetic q) left) tape d ≡ ended → ended ≡ run (sides_product bounds ws) tape p
-      fresh_ended e = sym (to_refresh ∙ bind_ended (refresh (arithmetic q) left) _ tape d e)
+      pub fresh_ended : run (refresh (arithmetic q) left) tape d ≡ ended → run (sides_product bounds ws) tape p ≡ ended
+      fresh_ended e = to_refresh ∙ bind_ended (refresh (arithmetic q) left) _ tape d e
 
       pub to_product : (fresh : List ℕ) {e : Cursor} → run (refresh (arithmetic q) left) tape d ≡ ran fresh e → run (product q fresh right) tape e ≡ run (sides_product bounds ws) tape p
       to_product fresh {e} f = sym (to_refresh ∙ bind_ran (refresh (arithmetic q) left) _ tape d fresh e f)

@@ -14,14 +14,14 @@ use Rattle.sizes.specs.Sides.{sides_product}
 use Rattle.sizes.specs.Verdict.{tested}
 
 module _ (bounds : Bounds) (xs tape : List ℕ) (p : Cursor) where
-  pub widen_stops : run (widen bounds xs) tape p ≡ ended → ended ≡ run (tested bounds xs) tape p
+  pub widen_stops : run (widen bounds xs) tape p ≡ ended → run (tested bounds xs) tape p ≡ ended
   unfolding tested
-  widen_stops e = sym (bind_ended (widen bounds xs) _ tape p e)
+  widen_stops e = bind_ended (widen bounds xs) _ tape p e
 
   module _ (ws : List ℕ) {c : Cursor} (w : run (widen bounds xs) tape p ≡ ran ws c) where
-    pub sides_stop : run (sides_product bounds ws) tape c ≡ ended → ended ≡ run (tested bounds xs) tape p
+    pub sides_stop : run (sides_product bounds ws) tape c ≡ ended → run (tested bounds xs) tape p ≡ ended
     unfolding tested
-    sides_stop e = sym (bind_ran (widen bounds xs) _ tape p ws c w ∙ bind_ended (sides_product bounds ws) (zero_test q) tape c e)
+    sides_stop e = bind_ran (widen bounds xs) _ tape p ws c w ∙ bind_ended (sides_product bounds ws) (zero_test q) tape c e
 
     pub to_zero_test : (ps : List ℕ) {d : Cursor} → run (sides_product bounds ws) tape c ≡ ran ps d → run (zero_test q ps) tape d ≡ run (tested bounds xs) tape p
     unfolding tested

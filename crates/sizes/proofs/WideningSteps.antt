@@ -47,15 +47,15 @@ module _ {n t : ℕ} (bounds : Bounds) (ws tape : List ℕ) (p : Cursor) (pos : 
   abbrev ys : List ℕ
   ys = add_to_first (arithmetic q) bounds.b ws
 
-  pub widen_ended : run (carries (2 ^ bounds.rho) t (2 ^ t) q (take n ys)) tape p ≡ ended → ended ≡ run (widen bounds (take n ws)) tape p
+  pub widen_ended : run (carries (2 ^ bounds.rho) t (2 ^ t) q (take n ys)) tape p ≡ ended → run (widen bounds (take n ws)) tape p ≡ ended
   widen_ended = part_ended _ _ tape p (whole_is bounds ws pos most is)
 
   pub widen_ran : (es : List ℕ) {c : Cursor} → run (carries (2 ^ bounds.rho) t (2 ^ t) q (take n ys)) tape p ≡ ran (take n es) c →
-      (ms : List ℕ) {rs : List ℕ} → take n ms ≡ without (wide bounds) q (take n es) (take n ys) → rs ≡ take_from_first (widened bounds) bounds.b ms → ran (take n rs) c ≡ run (widen bounds (take n ws)) tape p
+      (ms : List ℕ) {rs : List ℕ} → take n ms ≡ without (wide bounds) q (take n es) (take n ys) → rs ≡ take_from_first (widened bounds) bounds.b ms → run (widen bounds (take n ws)) tape p ≡ ran (take n rs) c
   unfolding taken_off
   widen_ran es {c} e ms {rs} g f =
-      ap (λ xs. ran xs c) (ap (take n) f ∙ taken-take (widened bounds) bounds.b n ms pos ∙ ap (take_from_first (widened bounds) bounds.b) g)
-      ∙ sym (part_ran _ _ tape p (whole_is bounds ws pos most is) e ∙ run_done (taken_off bounds (take n ys) (take n es)) tape c)
+      sym (ap (λ xs. ran xs c) (ap (take n) f ∙ taken-take (widened bounds) bounds.b n ms pos ∙ ap (take_from_first (widened bounds) bounds.b) g)
+      ∙ sym (part_ran _ _ tape p (whole_is bounds ws pos most is) e ∙ run_done (taken_off bounds (take n ys) (take n es)) tape c))
 
 -- the words that are handed on, all eight
 module _ {bounds : Bounds} (h : KindLaws bounds) where

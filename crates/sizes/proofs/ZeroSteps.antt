@@ -10,13 +10,9 @@ use Rattle.numbers.specs.Modulo.{q}
 use Rattle.numbers.specs.Lists.{Words}
 use Rattle.numbers.proofs.AlongLaws.{take-along, words_along}
 use Rattle.tape.specs.declared.Cursor.{Cursor}
-use Rattle.tape.specs.declared.Draw.{Draw}
-use Rattle.tape.specs.declared.Draw.TheVariants.{Got, Ended}
 use Rattle.tape.specs.Tape.{Ran, ended, ran, draw_at}
-use Rattle.tape.specs.Answers.{draw_stands_for}
-use Rattle.tape.proofs.DrawLaws.{got, got_none}
 use Rattle.draws.specs.Draws.{each, run}
-use Rattle.draws.proofs.DrawnLaws.{got_below}
+use Rattle.draws.proofs.DrawnLaws.{draw_below}
 use Rattle.draws.proofs.RunLaws.{run_draw, run_ended}
 use Rattle.shares.specs.Sharing.{arithmetic}
 use Rattle.shares.specs.Refresh.{refresh}
@@ -44,28 +40,28 @@ zero_start {M} {n} {words} tape p a =
 
 -- a turn: the draw, and then the refresh of the scaled words
 module _ {n : ℕ} {tape : List ℕ} {x : Ran (List ℕ)} {i : ℕ} {words : List ℕ} {p : Cursor} (a : Looping (scale_turn q) n 8 n q tape x i words p) (h : i < n)
-    (d : Draw) (told : draw_stands_for d ≡ draw_at tape p (q - 1)) where
-  pub zero_ended : d ≡ Ended → ended ≡ x
-  unfolding scale_turn
-  zero_ended e = looping_ended a h (run_ended (q - 1) _ tape p (got_none d told e))
+  where
+    pub zero_ended : ended ≡ draw_at tape p (q - 1) → x ≡ ended
+    unfolding scale_turn
+    zero_ended e = looping_ended a h (run_ended (q - 1) _ tape p (sym e))
 
-  module _ {r : ℕ} {c : Cursor} (e : d ≡ Got r c) where
-    pub scalar_below : r < q - 1
-    scalar_below = got_below d tape p (q - 1) told e
+    module _ {r : ℕ} {c : Cursor} (e : ran r c ≡ draw_at tape p (q - 1)) where
+      pub scalar_below : r < q - 1
+      scalar_below = draw_below tape p e
 
-    module _ {others : List ℕ} (f : others ≡ scaled q (r + 1) words) where
-      pub zero_held : Held 8 n q others
-      zero_held = held_of a.held (rw f (scaled_words q (r + 1) (omega arith) a.held.all))
+      module _ {others : List ℕ} (f : others ≡ scaled q (r + 1) words) where
+        pub zero_held : Held 8 n q others
+        zero_held = held_of a.held (rw f (scaled_words q (r + 1) (omega arith) a.held.all))
 
-      to_fresh : run (scale_turn q i (take n words)) tape p ≡ run (refresh (arithmetic q) (take n others)) tape c
-      unfolding scale_turn
-      to_fresh =
-          run_draw (q - 1) _ tape p r c (got d told e)
-          ∙ ap (λ xs. run (refresh (arithmetic q) xs) tape c) (sym (ap (take n) f ∙ scaled-take q (r + 1) n words))
+        to_fresh : run (scale_turn q i (take n words)) tape p ≡ run (refresh (arithmetic q) (take n others)) tape c
+        unfolding scale_turn
+        to_fresh =
+            run_draw (q - 1) _ tape p r c (sym e)
+            ∙ ap (λ xs. run (refresh (arithmetic q) xs) tape c) (sym (ap (take n) f ∙ scaled-take q (r + 1) n words))
 
-      pub zero_stopped : run (refresh (arithmetic q) (take n others)) tape c ≡ ended → ended ≡ x
-      zero_stopped s = looping_ended a h (to_fresh ∙ s)
+        pub zero_stopped : run (refresh (arithmetic q) (take n others)) tape c ≡ ended → x ≡ ended
+        zero_stopped s = looping_ended a h (to_fresh ∙ s)
 
-      pub zero_more : {fresh : List ℕ} {t : Cursor} → run (refresh (arithmetic q) (take n others)) tape c ≡ ran (take n fresh) t → Words 8 q fresh →
-          Looping (scale_turn q) n 8 n q tape x (i + 1) fresh t
-      zero_more s w = looping_more a h (to_fresh ∙ s) w
+        pub zero_more : {fresh : List ℕ} {t : Cursor} → run (refresh (arithmetic q) (take n others)) tape c ≡ ran (take n fresh) t → Words 8 q fresh →
+            Looping (scale_turn q) n 8 n q tape x (i + 1) fresh t
+        zero_more s w = looping_more a h (to_fresh ∙ s) w

@@ -9,7 +9,7 @@ use super::steps::{quotients, without};
 use carries::raised_shift;
 use convert::to_arithmetic;
 use params::Params;
-use shares::Shared;
+use shares::{Row, Shared};
 use tape::Cursor;
 use words::alpha;
 
@@ -20,27 +20,17 @@ pub fn to_modulus(
     modulus: u32,
     cursor: Cursor,
     tape: &[u32],
-) -> Shared
+) -> Option<Shared>
     requires { (mu + alpha n ≤ 31) × (2 ≤ modulus) × (2 ^ alpha n * modulus < 2 ^ 32) × Held 8 n (2 ^ mu) shares }
     ensures { Gave n modulus result (run (to_modulus modulus mu (take n shares)) tape.now cursor) }
 {
     let a = alpha(n);
     let k = mu + a;
-    let converted = to_arithmetic(shares, n, k, cursor, tape);
-    if !converted.ok {
-        return Shared::ended();
-    }
+    let converted = to_arithmetic(shares, n, k, cursor, tape)?;
     let x = converted.words;
-    let c = converted.cursor;
-    let carries = raised_shift(quotients(x, mu), n, modulus, a, c, tape);
-    if !carries.ok {
-        return Shared::ended();
-    }
-    let e = carries.words;
-    let after = carries.cursor;
-    Shared {
-        words: without(x, e, n, k, modulus),
-        cursor: after,
-        ok: true,
-    }
+    let carries = raised_shift(quotients(x, mu), n, modulus, a, converted.cursor, tape)?;
+    Some(Row {
+        words: without(x, carries.words, n, k, modulus),
+        cursor: carries.cursor,
+    })
 }

@@ -12,11 +12,7 @@ pub fn quotients(shares: [u32; Params::MOST], mu: u32) -> [u32; Params::MOST]
     requires { mu ≤ 31 }
     ensures { result ≡ along (λ i x. x / 2 ^ mu) shares }
 {
-    let mut words = shares;
-    for i in 0..Params::MOST {
-        words[i] = words[i] >> mu;
-    }
-    words
+    shares.map(|x| x >> mu)
 }
 
 // x − 2^k·e mod m. 2^k·(m − e) is added instead, so that nothing falls below 0.
@@ -27,7 +23,7 @@ fn less(x: u32, e: u32, k: u32, m: u32) -> u32
     reduce(x as u64 + power(k) as u64 * (m - e) as u64, m)
 }
 
-// The same of each of the n shares. The pass ends at n, so the compiler reads what the shift gave one by one, as the shift stored it.
+// The same of each of the n shares, of two arrays at one place. The pass ends at n, so the compiler reads what the shift gave one by one, as the shift stored it.
 pub fn without(
     shares: [u32; Params::MOST],
     e: [u32; Params::MOST],

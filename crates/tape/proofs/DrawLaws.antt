@@ -10,10 +10,7 @@ use borrow.Author.Tests.{lt-ltb, le-ltb}
 use Rattle.numbers.specs.Tests.{pick}
 use Rattle.numbers.specs.Bits.{bits_of}
 use Rattle.tape.specs.declared.Cursor.{Cursor}
-use Rattle.tape.specs.declared.Draw.{Draw}
-use Rattle.tape.specs.declared.Draw.TheVariants.{Got, Ended}
-use Rattle.tape.specs.Tape.{Ran, ended, ran, taken, passed, low_bits, draw_from, draw_at}
-use Rattle.tape.specs.Answers.{draw_stands_for}
+use Rattle.tape.specs.Tape.{ended, ran, taken, passed, low_bits, draw_from, draw_at}
 
 module _ (tape : List ℕ) (c : Cursor) (M : ℕ) where
   -- past the tape's end there is no draw
@@ -39,12 +36,3 @@ module _ (tape : List ℕ) (c : Cursor) (M : ℕ) where
 pub low_is : (M w s r : ℕ) → s ≡ 2 ^ bits_of M → r ≡ w % s → low_bits M w ≡ r
 unfolding low_bits
 low_is M w s r e f = rw (← e) (sym f)
-
--- what a call of draw gave
-pub got : (d : Draw) {r : ℕ} {c : Cursor} {x : Ran ℕ} → draw_stands_for d ≡ x → d ≡ Got r c → x ≡ ran r c
-unfolding draw_stands_for
-got d e f = sym e ∙ rw f
-
-pub got_none : (d : Draw) {x : Ran ℕ} → draw_stands_for d ≡ x → d ≡ Ended → x ≡ ended
-unfolding draw_stands_for
-got_none d e f = sym e ∙ rw f

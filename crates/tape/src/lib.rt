@@ -14,13 +14,6 @@ pub struct Cursor {
     pub at: usize,
 }
 
-// A draw answers a number, with the moved place, or that the tape has ended.
-#[derive(Clone, Copy)]
-pub enum Draw {
-    Got(u32, Cursor),
-    Ended,
-}
-
 // 2 to the number of bits of a draw below m: up to 2^32, so it has 64 bits.
 fn span_of(m: u32) -> u64
     requires { 2 ≤ m }
@@ -45,20 +38,21 @@ impl Cursor {
         Cursor { at: 0 }
     }
 
-    // A draw below m: words whose low bits are not below m are skipped.
-    pub fn draw(self, tape: &[u32], m: u32) -> Draw
+    // A draw below m, with the moved place; or that the tape has ended. Words whose low bits are not below m are skipped.
+    pub fn draw(self, tape: &[u32], m: u32) -> Option<(u32, Cursor)>
         requires { 2 ≤ m }
         ensures { draw_stands_for result ≡ draw_at tape.now self m }
     {
         let span = span_of(m);
+        // A `for` over the places made every draw slower by a third: this loop has one counter, which is the place that is handed on.
         let mut at = self.at;
         while at < tape.len() {
             let r = low(tape[at], span);
             at += 1;
             if r < m {
-                return Draw::Got(r, Cursor { at });
+                return Some((r, Cursor { at }));
             }
         }
-        Draw::Ended
+        None
     }
 }

@@ -8,29 +8,28 @@ ghost use Rattle.halves.specs.Halving.{halving};
 ghost use Rattle.halves.specs.Halvings.{halvings, halvings_bound, gathered_word};
 
 use halving::joined;
-use shares::Shared;
-use tape::{Cursor, Draw};
+use shares::{Row, Shared};
+use tape::Cursor;
 use words::{add_mod, power, sub_mod};
 
 // One halving, in the steps of document 01: one draw, and each word once.
-fn halve_two(x: u32, y: u32, m: u32, cursor: Cursor, tape: &[u32]) -> Shared
+fn halve_two(x: u32, y: u32, m: u32, cursor: Cursor, tape: &[u32]) -> Option<Shared>
     requires { (x < 2 * m) × (y < 2 * m) × (m ≤ 2147483647) }
     ensures { Gave 2 m result (run (halving m (x ∷ y ∷ [])) tape.now cursor) }
 {
     let double = 2 * m;
-    let Draw::Got(r, next) = cursor.draw(tape, double) else {
-        return Shared::ended();
+    let Some((r, next)) = cursor.draw(tape, double) else {
+        return None;
     };
     let p = y % 2;
     let a = joined(0, p, add_mod(x % 2, r, double), double);
     let b = joined(1, p, sub_mod(0, r, double), double);
     let d = sub_mod(x, a, double);
     let e = sub_mod(y, b, double);
-    Shared {
+    Some(Row {
         words: [d / 2, add_mod(e, d % 2, double) / 2, 0, 0, 0, 0, 0, 0],
         cursor: next,
-        ok: true,
-    }
+    })
 }
 
 // A bit of a Boolean share, from the parity of the arithmetic one; or, for the shift, nothing.
@@ -45,7 +44,15 @@ fn gathered_word(gathers: bool, word: u32, share: u32, b: u32) -> u32
 }
 
 // The halvings of a shift, or those between the bits of a Boolean share.
-pub fn of_two(x: u32, y: u32, m: u32, t: u32, gathers: bool, cursor: Cursor, tape: &[u32]) -> Shared
+pub fn of_two(
+    x: u32,
+    y: u32,
+    m: u32,
+    t: u32,
+    gathers: bool,
+    cursor: Cursor,
+    tape: &[u32],
+) -> Option<Shared>
     requires { (2 ≤ m) × (2 ^ t * m < 2 ^ 32) × Held 2 2 (2 ^ t * m) (x ∷ y ∷ []) }
     ensures { Gave 2 (halvings_bound gathers m t) result (run (halvings gathers m t (x ∷ y ∷ [])) tape.now cursor) }
 {
@@ -59,21 +66,17 @@ pub fn of_two(x: u32, y: u32, m: u32, t: u32, gathers: bool, cursor: Cursor, tap
         u = gathered_word(gathers, u, first, b);
         v = gathered_word(gathers, v, second, b);
         modulus = modulus / 2;
-        let s = halve_two(first, second, modulus, cur, tape);
-        if !s.ok {
-            return Shared::ended();
-        }
-        first = s.words[0];
-        second = s.words[1];
-        cur = s.cursor;
+        let halved = halve_two(first, second, modulus, cur, tape)?;
+        first = halved.words[0];
+        second = halved.words[1];
+        cur = halved.cursor;
     }
     if gathers {
         first = gathered_word(true, u, first, t);
         second = gathered_word(true, v, second, t);
     }
-    Shared {
+    Some(Row {
         words: [first, second, 0, 0, 0, 0, 0, 0],
         cursor: cur,
-        ok: true,
-    }
+    })
 }

@@ -4,7 +4,6 @@
 
 ghost use Rattle.std.specs.Prelude.{take};
 ghost use Rattle.numbers.specs.Modulo.{q};
-ghost use Rattle.params.specs.Laws.{KindLaws};
 ghost use Rattle.draws.specs.Draws.{run};
 ghost use Rattle.shares.specs.Arrays.{Held, Gave};
 ghost use Rattle.sizes.specs.Verdict.{tested};
@@ -24,21 +23,11 @@ pub fn tested_shares(
     bounds: Bounds,
     cursor: Cursor,
     tape: &[u32],
-) -> Shared
-    requires { KindLaws bounds × Held 8 n q shares }
+) -> Option<Shared>
+    requires { Held 8 n q shares }
     ensures { Gave n q result (run (tested bounds (take n shares)) tape.now cursor) }
 {
-    let widened = widen(shares, n, bounds, cursor, tape);
-    if !widened.ok {
-        return Shared::ended();
-    }
-    let x = widened.words;
-    let c = widened.cursor;
-    let product = sides_product(x, n, bounds, c, tape);
-    if !product.ok {
-        return Shared::ended();
-    }
-    let y = product.words;
-    let after = product.cursor;
-    zero_test(y, n, after, tape)
+    let widened = widen(shares, n, bounds, cursor, tape)?;
+    let product = sides_product(widened.words, n, bounds, widened.cursor, tape)?;
+    zero_test(product.words, n, product.cursor, tape)
 }

@@ -4,7 +4,6 @@
 ghost use Rattle.std.specs.Prelude.{◌≡◌, ◌*◌, ◌≤◌, take};
 ghost use Rattle.numbers.specs.Modulo.{q};
 ghost use Rattle.numbers.specs.Lists.{Words};
-ghost use Rattle.params.specs.Laws.{KindLaws};
 ghost use Rattle.draws.specs.Draws.{run};
 ghost use Rattle.shares.specs.Arrays.{Held, Gave};
 ghost use Rattle.halves.specs.Carries.{without};
@@ -13,19 +12,18 @@ ghost use Rattle.sizes.specs.Widening.{wide, widen};
 use carries::carries_by_q;
 use first::{add_to_first, take_from_first};
 use params::{Bounds, Params};
-use shares::Shared;
+use shares::{Row, Shared};
 use tape::Cursor;
 use words::{alpha, power, sub_mod};
 
 // The modulus 2^rho·q of the widened shares.
 pub fn wide(bounds: Bounds) -> u32
-    requires { KindLaws bounds }
     ensures { result ≡ wide bounds }
 {
     power(bounds.rho) * Params::Q
 }
 
-// x − q·e mod m of each of the n shares x and its carry e. With x below q and e below the factor 2^rho, both x and q·e are below m = 2^rho·q, so this
+// x − q·e mod m of each of the n shares x and its carry e, at one place of two arrays. With x below q and e below the factor 2^rho, both x and q·e are below m = 2^rho·q, so this
 // needs no remainder. The pass ends at n, so the compiler reads the carries one by one: in fours they would have to wait for the shift's single stores.
 fn without_carries(
     shares: [u32; Params::MOST],
@@ -53,23 +51,17 @@ pub fn widen(
     bounds: Bounds,
     cursor: Cursor,
     tape: &[u32],
-) -> Shared
-    requires { KindLaws bounds × Held 8 n q shares }
+) -> Option<Shared>
+    requires { Held 8 n q shares }
     ensures { Gave n (wide bounds) result (run (widen bounds (take n shares)) tape.now cursor) }
 {
     let x = add_to_first(shares, bounds.b, Params::Q);
     let t = alpha(n) + 1;
     let factor = power(bounds.rho);
-    let carries = carries_by_q(x, n, factor, t, power(t), cursor, tape);
-    if !carries.ok {
-        return Shared::ended();
-    }
-    let e = carries.words;
-    let after = carries.cursor;
+    let carries = carries_by_q(x, n, factor, t, power(t), cursor, tape)?;
     let m = wide(bounds);
-    Shared {
-        words: take_from_first(without_carries(x, e, n, factor, m), bounds.b, m),
-        cursor: after,
-        ok: true,
-    }
+    Some(Row {
+        words: take_from_first(without_carries(x, carries.words, n, factor, m), bounds.b, m),
+        cursor: carries.cursor,
+    })
 }

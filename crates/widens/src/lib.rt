@@ -3,49 +3,39 @@
 
 ghost use Rattle.std.specs.Prelude.{◌≡◌, length};
 ghost use Rattle.numbers.specs.Modulo.{q};
-ghost use Rattle.params.specs.Laws.{KindLaws};
 ghost use Rattle.tape.specs.Tape.{start};
 ghost use Rattle.draws.specs.Draws.{bind, run};
 ghost use Rattle.shares.specs.Refresh.{refresh};
+ghost use Rattle.shares.specs.Arrays.{shared};
 ghost use Rattle.checks.specs.Checks.{Checked};
-ghost use Rattle.gate.specs.Told.{silent_ran, ran_told, stands_for};
+ghost use Rattle.gate.specs.Told.{stands_for};
 ghost use Rattle.gate.specs.Gadget.{tells};
 ghost use Rattle.sizes.specs.Widening.{widened, widen};
-ghost use Rattle.demands.specs.Gadgets.{kind_range, widen_gadget};
+ghost use Rattle.demands.specs.Gadgets.{widen_gadget};
 
-use checks::{Admitted, admit, first_failing, inside};
+use checks::checked;
 use copies::copy_in;
-use gate::{Answer, finish, refused};
+use gate::{Answer, finish};
 use params::{Bounds, Params};
-use shares::close;
+use shares::{Arithmetic, Shared, close};
 use tape::Cursor;
 use widening::wide;
 
-// Both parameters of widening and of the verdict are in their ranges.
-pub fn kind_range(set: u32, kind: u32) -> bool
-    ensures { result ≡ kind_range set kind }
-{
-    if !Params::known(set) {
-        return false;
-    }
-    inside(1, 2, kind)
-}
-
-fn widen_by(shares: &[u32], tape: &[u32], bounds: Bounds, out: &mut [u32]) -> Answer
-    requires { KindLaws bounds × Checked shares.now (length out.old) q }
-    ensures { stands_for result out.new ≡ ran_told 0 (silent_ran (run (bind (widen bounds shares.now) (refresh (widened bounds))) tape.now start)) out.old }
+// The steps and the closing refresh.
+fn widened(shares: &[u32], tape: &[u32], bounds: Bounds) -> Option<Shared>
+    requires { Checked shares.now (length shares.now) q }
+    ensures { shared (length shares.now) result ≡ run (bind (widen bounds shares.now) (refresh (widened bounds))) tape.now start }
 {
     let n = shares.len();
-    let s = widening::widen(copy_in(shares), n, bounds, Cursor::start(), tape);
-    finish(close(s, n, wide(bounds), tape), out)
+    let wider = widening::widen(copy_in(shares), n, bounds, Cursor::start(), tape)?;
+    close(wider, n, Arithmetic { m: wide(bounds) }, tape)
 }
 
 pub fn widen(shares: &[u32], tape: &[u32], set: u32, kind: u32, out: &mut [u32]) -> Answer
     ensures { stands_for result out.new ≡ tells (widen_gadget set kind) shares.now tape.now out.old }
 {
-    let number = first_failing(shares, out.len(), kind_range(set, kind), Params::Q);
-    match admit(set, number) {
-        Admitted::Refused(k) => refused(k),
-        Admitted::Set(p) => widen_by(shares, tape, p.of_kind(kind), out),
+    match checked(shares, out.len(), Params::bounds(set, kind), Params::Q) {
+        Ok(bounds) => finish(widened(shares, tape, bounds), out),
+        Err(refusal) => Answer::from(refusal),
     }
 }

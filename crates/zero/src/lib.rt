@@ -8,41 +8,36 @@ ghost use Rattle.shares.specs.Arrays.{Held, Gave};
 ghost use Rattle.sizes.specs.ZeroTest.{scaled, zero_test};
 
 use params::Params;
-use shares::{Shared, refresh};
-use tape::{Cursor, Draw};
+use shares::{Arithmetic, Row, Shared, refresh};
+use tape::Cursor;
 use words::mul_q;
 
 fn scaled(shares: [u32; Params::MOST], c: u32) -> [u32; Params::MOST]
     ensures { result ≡ scaled q c shares }
 {
-    let mut words = shares;
-    for i in 0..Params::MOST {
-        words[i] = mul_q(words[i], c);
-    }
-    words
+    shares.map(|x| mul_q(x, c))
 }
 
 // A draw below q - 1, plus 1, is a scalar that is not zero.
-pub fn zero_test(shares: [u32; Params::MOST], n: usize, cursor: Cursor, tape: &[u32]) -> Shared
+pub fn zero_test(
+    shares: [u32; Params::MOST],
+    n: usize,
+    cursor: Cursor,
+    tape: &[u32],
+) -> Option<Shared>
     requires { Held 8 n q shares }
     ensures { Gave n q result (run (zero_test q (take n shares)) tape.now cursor) }
 {
-    let mut words = shares;
-    let mut cur = cursor;
+    let kind = Arithmetic { m: Params::Q };
+    let mut given = Row {
+        words: shares,
+        cursor,
+    };
     for _ in 0..n {
-        let Draw::Got(r, next) = cur.draw(tape, Params::Q - 1) else {
-            return Shared::ended();
+        let Some((r, next)) = given.cursor.draw(tape, Params::Q - 1) else {
+            return None;
         };
-        let s = refresh(scaled(words, r + 1), n, Params::Q, next, tape);
-        if !s.ok {
-            return Shared::ended();
-        }
-        words = s.words;
-        cur = s.cursor;
+        given = refresh(scaled(given.words, r + 1), n, kind, next, tape)?;
     }
-    Shared {
-        words,
-        cursor: cur,
-        ok: true,
-    }
+    Some(given)
 }

@@ -4,7 +4,7 @@ use native.Mathlib.Omega.{arith}
 use lib.ListN.{take}
 use Rattle.numbers.specs.Modulo.{q}
 use Rattle.draws.specs.Draws.{run}
-use Rattle.shares.proofs.ArraysLaws.{given_as}
+use Rattle.shares.proofs.ArraysLaws.{gave_as}
 use Rattle.halves.specs.Carries.{raised_shift, carries}
 use Rattle.halves.proofs.CarrySteps.{floors-held, floors-take, scaled_small}
 use Rattle.carries.proofs.carries_by_q.Goals as goal
@@ -25,6 +25,6 @@ raised_shift-requires c = let p = c.requires in
 
 pub returns : goal.returns
 unfolding carries
-returns c = given_as c.raised_shift.ensures
+returns c = gave_as _ _ _ c.raised_shift.ensures
     (ap (λ fs. run (raised_shift c.args.m c.args.t fs) c.args.tape.now c.args.cursor)
     (ap (take c.args.n) c.floors_by_q.ensures ∙ floors-take (λ x. x * c.args.c / q) c.args.c q (λ x. refl) (small (goal.at.returns c).Start) (two (goal.at.returns c).Start) c.requires.5))

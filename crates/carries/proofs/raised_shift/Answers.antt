@@ -4,7 +4,7 @@ use native.Mathlib.Omega.{arith}
 use lib.ListN.{take}
 use Rattle.draws.specs.Draws.{run}
 use Rattle.shares.specs.Sharing.{arithmetic}
-use Rattle.shares.proofs.ArraysLaws.{given_as}
+use Rattle.shares.proofs.ArraysLaws.{gave_as}
 use Rattle.first.specs.First.{add_to_first}
 use Rattle.halves.specs.Shift.{shift}
 use Rattle.halves.specs.Carries.{raised_shift}
@@ -29,5 +29,5 @@ shift_by-requires c = let p = c.requires in (p.0, p.1, p.2, rw (first c) (raised
 
 pub returns : goal.returns
 unfolding raised_shift
-returns c = given_as c.shift_by.ensures
+returns c = gave_as _ _ _ c.shift_by.ensures
     (ap (λ xs. run (shift c.args.m c.args.t xs) c.args.tape.now c.args.cursor) (ap (take c.args.n) (first (goal.at.returns c).After-add_to_first-words) ∙ raised-take c.requires.4 c.requires.3))

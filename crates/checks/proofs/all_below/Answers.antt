@@ -1,20 +1,9 @@
-use borrow.Author.Rules.{rules}
-use mathlib.Core.Path.{refl, ◌∙◌}
-use Rattle.checks.proofs.CheckLaws.{below_end, below_stop, below_more}
+use Rattle.std.proofs.Common.{rules, nat_lt, ◌∙◌}
+use borrow.Author.Tests.{tests}
+use Rattle.std.proofs.lemmas.Iterator.{YieldsList-from_slice}
+use Rattle.std.proofs.lemmas.Iterator.Search.{all_from_yields_List}
+use Rattle.checks.proofs.CheckLaws.{all_below_is}
 use Rattle.checks.proofs.all_below.Goals as goal
 
-pub loop-i-init : goal.loop-i-init
-loop-i-init c = (refl, search rules, refl)
-
-pub returns-then-m-shares : goal.returns-then-m-shares
-returns-then-m-shares c =
-    let l = c.loop-i.invariant in
-    below_stop _ _ _ (rw l.0 at c.loop-i-test.true) c.if-m-shares.true ∙ l.2
-
-pub loop-i-preserved : goal.loop-i-preserved
-loop-i-preserved c =
-    let l = c.loop-i.invariant in
-    (l.0, search rules, below_more _ _ _ (rw l.0 at c.loop-i-test.true) c.if-m-shares.false ∙ l.2)
-
 pub returns : goal.returns
-returns c = let l = c.loop-i.invariant in below_end _ _ _ (rw l.0 at c.loop-i-test.false) ∙ l.2
+returns c = all_from_yields_List (λ x. nat_lt x c.args.m) _ _ _ c.all.ensures.ran (YieldsList-from_slice c.args.shares.now cc) (λ x b q k. search (rules, tests)) ∙ all_below_is _ _

@@ -1,18 +1,15 @@
-use mathlib.Core.Path.{ap, ◌∙◌}
+use Rattle.std.proofs.Common.{sym, ap, ◌∙◌}
+use Rattle.params.proofs.SetLaws.{set_laws}
 use Rattle.tape.specs.Tape.{ran}
-use Rattle.shares.proofs.ArraysLaws.{held_below, gave, stopped}
-use Rattle.decompose.specs.Answers.{high_stands_for}
+use Rattle.shares.proofs.ArraysLaws.{held_below}
 use Rattle.parts.proofs.DecomposeSteps.{shares_ended, opens}
-use borrow.Author.Tests.{not-false}
 use Rattle.decompose.proofs.high_part.Goals as goal
 
-pub returns-then-not-shared : goal.returns-then-not-shared
-unfolding high_stands_for
-returns-then-not-shared c = shares_ended _ _ _ _ (stopped c.high_shares-shared.ensures c.if-not-shared.true)
+pub returns-in_err-high : goal.returns-in_err-high
+returns-in_err-high c = rw c.from_residual.ensures (sym (shares_ended _ _ _ _ c.in_err-high.ensures))
 
 pub opened-requires : goal.opened-requires
-opened-requires c = held_below c.requires.1 c.requires.0.parts_least (c.high_shares-shared.ensures.below (not-false _ c.if-not-shared.false))
+opened-requires c = held_below c.requires (set_laws c.args.p).parts_least c.in_ok-high.ensures.1
 
 pub returns : goal.returns
-unfolding high_stands_for
-returns c = ap (λ high. ran high c.high_shares-shared.result.cursor) c.opened.ensures ∙ opens _ _ _ _ (gave c.high_shares-shared.ensures c.if-not-shared.false)
+returns c = ap (λ high. ran high c.in_ok-high.high.cursor) c.opened.ensures ∙ sym (opens _ _ _ _ c.in_ok-high.ensures.0)

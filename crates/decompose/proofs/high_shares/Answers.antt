@@ -1,35 +1,35 @@
-use mathlib.Core.Path.{ap, ap₂, ◌∙◌}
-use Prim.Native.Nat.{◌+◌, ◌*◌, ◌^◌, ◌≤◌, ◌<◌}
-use native.Mathlib.Omega.{arith}
-use lib.ListN.{length, take}
+use Rattle.std.proofs.Common.{◌≡◌, sym, ap, ℕ, List, ◌+◌, ◌*◌, ◌^◌, ◌≤◌, ◌<◌, length, take, arith, rules}
 use Rattle.numbers.specs.Modulo.{q}
 use Rattle.numbers.specs.Bits.{alpha}
+use Rattle.params.proofs.SetLaws.{set_laws}
 use Rattle.params.proofs.RoomLaws.{alpha_most, half_below, parts_room}
-use Rattle.draws.specs.Draws.{next, run}
+use Rattle.draws.specs.Draws.{run}
+use Rattle.draws.proofs.RunLaws.{part_ran, part_ended}
+use Rattle.tape.specs.Tape.{Ran}
 use Rattle.shares.specs.Sharing.{arithmetic}
-use Rattle.shares.specs.Refresh.{refresh}
+use Rattle.first.specs.First.{add_to_first}
 use Rattle.shares.specs.Arrays.{Held}
-use Rattle.shares.proofs.ArraysLaws.{held_of, held_below, given_as}
+use Rattle.shares.proofs.ArraysLaws.{held_of, held_below, gave_as}
 use Rattle.halves.specs.Carries.{carries}
 use Rattle.parts.proofs.DecomposeSteps.{offset_words, floors_room, count_room, high_shares_is}
 use Rattle.decompose.proofs.high_shares.Goals as goal
-use Rattle.decompose.proofs.high_shares.Goals.{After-alpha-t}
+use Rattle.decompose.proofs.high_shares.Goals.{After-alpha-t, After-carries_by_q}
 
 fit : (c : After-alpha-t) → c.args.n ≤ length c.args.shares
-fit c = omega (arith, c.requires.1.most, c.requires.1.all.size)
+fit c = omega (arith, c.requires.most, c.requires.all.size)
 
 -- the shares with gamma2 added
 offset : (c : After-alpha-t) → Held 8 c.args.n q c.add_to_first-x.result
-offset c = let p = c.requires in rw c.add_to_first-x.ensures (held_of p.1 (offset_words p.0 p.1.all))
+offset c = let h = c.requires in rw c.add_to_first-x.ensures (held_of h (offset_words (set_laws c.args.p) h.all))
 
 few : (c : After-alpha-t) → c.alpha-t.result ≤ 3
-few c = rw c.alpha-t.ensures (alpha_most _ c.requires.1.most)
+few c = rw c.alpha-t.ensures (alpha_most _ c.requires.most)
 
 pub add_to_first-x-requires : goal.add_to_first-x-requires
-add_to_first-x-requires c = let p = c.requires in (half_below p.0, p.1.all)
+add_to_first-x-requires c = (half_below (set_laws c.args.p), c.requires.all)
 
 pub alpha-t-requires : goal.alpha-t-requires
-alpha-t-requires c = let p = c.requires in (p.1.least, p.1.most)
+alpha-t-requires c = (c.requires.least, c.requires.most)
 
 pub overflow_add-t : goal.overflow_add-t
 overflow_add-t c = omega (arith, few c)
@@ -38,23 +38,35 @@ pub power-requires : goal.power-requires
 power-requires c = omega (arith, few c)
 
 pub overflow_mul-p : goal.overflow_mul-p
-overflow_mul-p c = let h : 2 ^ (23 + alpha c.args.n) * c.args.p.delta < 2 ^ 32 = parts_room c.requires.0 _ c.requires.1.most in
+overflow_mul-p c = let h : 2 ^ (23 + alpha c.args.n) * c.args.p.delta < 2 ^ 32 = parts_room (set_laws c.args.p) _ c.requires.most in
     let l : c.args.p.delta * c.power.result < 2 ^ 32 = rw (c.power.ensures, c.alpha-t.ensures) (omega (arith, floors_room c.args.p.delta (23 + alpha c.args.n))) in
     omega arith
 
-pub carries_by_q-s-requires : goal.carries_by_q-s-requires
-carries_by_q-s-requires c = let (l, h) = c.requires in
+pub carries_by_q-requires : goal.carries_by_q-requires
+carries_by_q-requires c = let l = set_laws c.args.p in
+    let h = c.requires in
     rw (c.power.ensures, c.alpha-t.ensures)
-    (omega (arith, alpha_most _ h.most), l.parts_least, parts_room l _ h.most, count_room l _, floors_room _ _, offset (goal.at.carries_by_q-s-requires c).After-alpha-t)
+    (omega (arith, alpha_most _ h.most), l.parts_least, parts_room l _ h.most, count_room l _, floors_room _ _, offset (goal.at.carries_by_q-requires c).After-alpha-t)
+
+-- the carries of the shares with gamma2 added
+carried : (c : After-carries_by_q) (x : Ran (List ℕ)) →
+    let a = c.args in
+    let t = 23 + c.alpha-t.result in
+    run (carries a.p.delta t (a.p.delta * c.power.result) q (take a.n c.add_to_first-x.result)) a.tape.now a.cursor ≡ x →
+    run (carries a.p.delta t (a.p.delta * 2 ^ t) q (take a.n (add_to_first (arithmetic q) a.p.gamma2 a.shares))) a.tape.now a.cursor ≡ x
+carried c x e = rw (sym c.power.ensures, sym c.add_to_first-x.ensures) e
+
+pub returns-in_err-carries : goal.returns-in_err-carries
+returns-in_err-carries c =
+    let at = goal.at.returns-in_err-carries c in
+    rw c.from_residual.ensures
+    (part_ended _ _ _ _ (high_shares_is c.args.p c.args.shares (omega (arith, c.requires.least)) (fit at.After-alpha-t) (ap (λ j. 23 + j) c.alpha-t.ensures)) (carried at.After-carries_by_q _ c.in_err-carries.ensures))
 
 pub close-requires : goal.close-requires
-close-requires c t = held_below c.requires.1 c.requires.0.parts_least (c.carries_by_q-s.ensures.below t)
+close-requires c = (search rules, held_below c.requires (set_laws c.args.p).parts_least c.in_ok-carries.ensures.1)
 
 pub returns : goal.returns
 returns c =
-    let t = 23 + c.alpha-t.result in
-    given_as c.close.ensures
-    (ap (λ y. next y (λ xs d. run (refresh (arithmetic c.args.p.delta) xs) c.args.tape.now d))
-    (c.carries_by_q-s.ensures.is
-    ∙ ap₂ (λ f ys. run (carries c.args.p.delta t (c.args.p.delta * f) q (take c.args.n ys)) c.args.tape.now c.args.cursor) c.power.ensures c.add_to_first-x.ensures)
-    ∙ high_shares_is c.args.p c.args.shares c.args.tape.now c.args.cursor (omega (arith, c.requires.1.least)) (fit (goal.at.returns c).After-alpha-t) (ap (λ j. 23 + j) c.alpha-t.ensures))
+    let at = goal.at.returns c in
+    gave_as _ _ _ c.close.ensures
+    (sym (part_ran _ _ _ _ (high_shares_is c.args.p c.args.shares (omega (arith, c.requires.least)) (fit at.After-alpha-t) (ap (λ j. 23 + j) c.alpha-t.ensures)) (carried at.After-carries_by_q _ c.in_ok-carries.ensures.0)))

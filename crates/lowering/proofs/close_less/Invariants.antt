@@ -1,4 +1,4 @@
-use lib.ListN.{take}
+use Rattle.std.proofs.Common.{take}
 use Rattle.draws.specs.Draws.{run}
 use Rattle.shares.specs.Sharing.{arithmetic}
 use Rattle.shares.specs.Refresh.{refresh}
@@ -7,4 +7,4 @@ use Rattle.first.specs.First.{take_from_first}
 use Rattle.lowering.proofs.close_less.Given as goal
 
 abbrev pub invariant-loop-i : goal.invariant-loop-i
-invariant-loop-i l = Writing (arithmetic l.m) l.n (take_from_first (arithmetic l.m) l.offset l.s.words) l.tape (run (refresh (arithmetic l.m) (take_from_first (arithmetic l.m) l.offset (take l.n l.s.words))) l.tape l.s.cursor) l.i l.words l.last_share l.cur
+invariant-loop-i l = Writing (arithmetic l.m) 8 l.n (take_from_first (arithmetic l.m) l.offset l.given.words) l.tape (run (refresh (arithmetic l.m) (take_from_first (arithmetic l.m) l.offset (take l.n l.given.words))) l.tape l.given.cursor) l.i l.words l.last_share l.cur

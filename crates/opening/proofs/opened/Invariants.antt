@@ -1,5 +1,5 @@
 use Rattle.opening.proofs.OpeningLaws.{Opening}
 use Rattle.opening.proofs.opened.Given as goal
 
-abbrev pub invariant-loop-i : goal.invariant-loop-i
-invariant-loop-i l = Opening l.n l.m l.shares l.i l.sum
+abbrev pub invariant-loop-share : goal.invariant-loop-share
+invariant-loop-share l = Opening l.m l.share-items l.share-index l.sum

@@ -1,10 +1,5 @@
-use mathlib.Core.Path.{◌∙◌}
-use Prim.Native.Nat.{◌+◌, ◌*◌, ◌≤◌, ◌<◌}
-use native.Mathlib.Omega.{arith}
-use lib.ListN.{length}
-use Rattle.polynomial.specs.Answers.{written_stands_for}
+use Rattle.std.proofs.Common.{sym, ◌∙◌, ◌+◌, ◌*◌, ◌≤◌, ◌<◌, length, arith}
 use Rattle.masks.proofs.RowLaws.{lent_length, filling_start, filling_all, filling_within, filling_ended, filling_more}
-use Rattle.polynomial.proofs.WrittenLaws.{wrote_none, wrote}
 use Rattle.polynomial.proofs.polynomial.Goals as goal
 use Rattle.polynomial.proofs.polynomial.Goals.{In-loop-c}
 
@@ -18,7 +13,7 @@ within : (c : In-loop-c) →
 within c = filling_within c.loop-c.invariant (few c)
 
 pub loop-c-init : goal.loop-c-init
-loop-c-init c = rw c.start-cursor.ensures (filling_start _ _ _ _ c.requires.3)
+loop-c-init c = rw c.start-cursor.ensures (filling_start _ _ _ _ c.requires.2)
 
 pub overflow_mul-place : goal.overflow_mul-place
 overflow_mul-place c = omega (arith, within c)
@@ -29,15 +24,12 @@ overflow_add-place c = omega (arith, within c)
 pub offset_bounds-out-place : goal.offset_bounds-out-place
 offset_bounds-out-place c = omega (arith, within c, c.well_formed)
 
-pub returns-in_default : goal.returns-in_default
-unfolding written_stands_for
-returns-in_default c =
-    filling_ended c.loop-c.invariant (few (goal.at.returns-in_default c).In-loop-c) (wrote_none _ _ c.write_row.ensures c.in_default.is)
+pub returns-in_err-cursor : goal.returns-in_err-cursor
+returns-in_err-cursor c = rw c.from_residual.ensures (sym (filling_ended c.loop-c.invariant (few (goal.at.returns-in_err-cursor c).In-loop-c) (sym c.in_err-cursor.ensures)))
 
 pub loop-c-preserved : goal.loop-c-preserved
 loop-c-preserved c =
-    filling_more c.loop-c.invariant (few (goal.at.loop-c-preserved c).In-loop-c) (wrote _ _ c.write_row.ensures c.in-Filled.is) (c.out-1.given.0 ∙ lent_length _ _ _ (within (goal.at.loop-c-preserved c).In-loop-c))
+    filling_more c.loop-c.invariant (few (goal.at.loop-c-preserved c).In-loop-c) (sym c.in_ok-cursor.ensures) (c.out-1.given.0 ∙ lent_length _ _ _ (within (goal.at.loop-c-preserved c).In-loop-c))
 
 pub returns : goal.returns
-unfolding written_stands_for
-returns c = filling_all c.loop-c.invariant c.loop-c-test.false
+returns c = sym (filling_all c.loop-c.invariant c.loop-c-test.false)

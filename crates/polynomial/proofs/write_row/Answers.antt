@@ -1,34 +1,26 @@
-use mathlib.Core.Path.{sym, ap, ◌∙◌}
-use mathlib.Core.List.{List}
-use Prim.Native.Nat.{ℕ}
-use native.Mathlib.Omega.{arith}
-use lib.ListN.{take}
-use Rattle.numbers.specs.Modulo.{q}
+use Rattle.std.proofs.Common.{sym, ap, ◌∙◌, List, ℕ, take, arith}
+use Rattle.params.proofs.SetLaws.{set_laws}
 use Rattle.params.proofs.RoomLaws.{mask_small}
 use Rattle.tape.specs.Tape.{ran}
-use Rattle.draws.specs.Draws.{run}
-use Rattle.shares.specs.Arrays.{Gave}
-use Rattle.shares.proofs.ArraysLaws.{gave, stopped}
-use Rattle.masks.specs.Sampling.{coefficient}
-use Rattle.masks.proofs.SampleSteps.{drawn_held, closed}
-use Rattle.polynomial.specs.Answers.{written_stands_for}
+use Rattle.masks.proofs.SampleSteps.{drawn_held, coefficient_ended, coefficient_ran}
 use Rattle.polynomial.proofs.write_row.Goals as goal
-use Rattle.polynomial.proofs.write_row.Goals.{After-close_less-s}
 
-pub close_less-s-requires : goal.close_less-s-requires
-close_less-s-requires c =
+pub returns-in_err-drawn : goal.returns-in_err-drawn
+returns-in_err-drawn c = let a = c.args in rw c.from_residual.ensures (sym (coefficient_ended a.p a.n a.tape.now a.cursor c.in_err-drawn.ensures))
+
+pub close_less-requires : goal.close_less-requires
+close_less-requires c =
     let p = c.requires in
-    (omega (arith, mask_small p.0), drawn_held p.1 p.2 c.drawn_mod_q.ensures)
+    (omega (arith, mask_small (set_laws c.args.p)), drawn_held p.0 p.1 c.in_ok-drawn.ensures.1)
 
--- what is closed is the coefficient
-row : (c : After-close_less-s) → let a = c.args in Gave a.n q c.close_less-s.result (run (coefficient a.p a.n) a.tape.now a.cursor)
-row c = closed _ _ _ _ c.drawn_mod_q.ensures c.close_less-s.ensures
-
-pub returns-then-not-s : goal.returns-then-not-s
-unfolding written_stands_for
-returns-then-not-s c = sym (stopped (row (goal.at.returns-then-not-s c).After-close_less-s) c.if-not-s.true)
+pub returns-in_err-closed : goal.returns-in_err-closed
+returns-in_err-closed c =
+    let a = c.args in
+    rw c.from_residual-in_err-closed.ensures (sym (sym (coefficient_ran a.p a.n a.tape.now a.cursor c.in_ok-drawn.ensures.0) ∙ c.in_err-closed.ensures))
 
 pub returns : goal.returns
-unfolding written_stands_for
 returns c =
-    ap (λ (l : List ℕ). ran l c.close_less-s.result.cursor) (c.copy_out.ensures ∙ ap (λ (k : ℕ). take k c.close_less-s.result.words) c.requires.3) ∙ sym (gave (row (goal.at.returns c).After-close_less-s) c.if-not-s.false)
+    let a = c.args in
+    let r = c.in_ok-closed.closed in
+    ap (λ (l : List ℕ). ran l r.cursor) (c.copy_out.ensures ∙ ap (λ (k : ℕ). take k r.words) c.requires.2)
+    ∙ sym (sym (coefficient_ran a.p a.n a.tape.now a.cursor c.in_ok-drawn.ensures.0) ∙ c.in_ok-closed.ensures.0)

@@ -1,14 +1,9 @@
-use borrow.Author.Rules.{rules}
-use Rattle.numbers.proofs.AlongLaws.{along-start, along_more, along_all}
+use Rattle.std.proofs.Common.{rules, ◌*◌, ◌%◌, get_or}
+use Rattle.numbers.specs.Modulo.{q}
+use Rattle.numbers.proofs.MadeLaws.{made_along}
 use Rattle.sizes.specs.Product.{begun}
 use Rattle.product.proofs.begun.Goals as goal
 
-pub loop-i-init : goal.loop-i-init
-loop-i-init c = along-start (search rules)
-
-pub loop-i-preserved : goal.loop-i-preserved
-loop-i-preserved c = along_more c.loop-i.invariant c.loop-i-test.true c.mul_q.ensures
-
 pub returns : goal.returns
 unfolding begun
-returns c = along_all c.loop-i.invariant c.loop-i-test.false
+returns c = made_along (λ i x. x * get_or c.args.r i 0 % q) _ (λ i y f k. search rules) (search rules) c.from_fn.ensures.items

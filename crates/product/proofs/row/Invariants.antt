@@ -6,4 +6,4 @@ use Rattle.sizes.proofs.ProductSteps.{Crossing}
 use Rattle.product.proofs.row.Given as goal
 
 abbrev pub invariant-loop-j : goal.invariant-loop-j
-invariant-loop-j l = Crossing q l.n l.l l.r l.i l.tape (run (row q (take l.n l.l) (take l.n l.r) l.i (take l.n l.initial.words)) l.tape l.initial.cur) l.j l.words l.cur
+invariant-loop-j l = Crossing q l.n l.l l.r l.i l.tape (run (row q (take l.n l.l) (take l.n l.r) l.i (take l.n l.fn.shares)) l.tape l.fn.cursor) l.j l.words l.cur

@@ -1,15 +1,12 @@
-use Rattle.std.proofs.Common.{pow_pos, rules}
-use Rattle.rules.proofs.ListLaws.{adding_start, adding_more, adding_all}
+use Rattle.std.proofs.Common.{◌^◌, ◌-◌, pow_pos, rules, arith}
+use Rattle.numbers.proofs.MadeLaws.{made_so}
+use Rattle.rules.proofs.ListLaws.{Added, added_words, added_take}
 use Rattle.psi.proofs.added.Goals as goal
-
-pub loop-i-init : goal.loop-i-init
-loop-i-init c = adding_start c.requires.3
-
-pub loop-i-preserved : goal.loop-i-preserved
-loop-i-preserved c =
-    let p = c.requires in
-    adding_more c.loop-i.invariant c.loop-i-test.true (pow_pos _) p.3 p.4 c.added_at.ensures
 
 pub returns : goal.returns
 returns c =
-    (c.loop-i.invariant.all, adding_all c.loop-i.invariant c.loop-i-test.false (search rules) c.requires.1 c.requires.3.size)
+    let (least, most, k, u, z) = c.requires in
+    let a = c.args in
+    let made = c.from_fn.ensures.items in
+    let all = made_so (Added (2 ^ a.k) (a.n - 1) a.u a.z) (λ i y f e. search rules) _ made in
+    (added_words _ _ _ _ _ made.long (pow_pos _) u z all, added_take _ _ _ _ _ made.long all (omega (arith, least)) most u.size)

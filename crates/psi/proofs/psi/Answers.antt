@@ -1,4 +1,4 @@
-use Rattle.std.proofs.Common.{◌%◌, ◌^◌, ◌<◌, ap₂, rules}
+use Rattle.std.proofs.Common.{◌%◌, ap₂}
 use Rattle.numbers.specs.Modulo.{xor}
 use Rattle.rules.specs.Psi.{psi}
 use Rattle.rules.proofs.ListLaws.{wraps}
@@ -6,6 +6,4 @@ use Rattle.psi.proofs.psi.Goals as goal
 
 pub returns : goal.returns
 unfolding psi xor
-returns c =
-    let word : c.wrapping_sub_u32.result < 2 ^ 32 = search rules in
-    ap₂ (λ x y. x % y) (wraps _ _ word c.wrapping_sub_u32.ensures.value) c.power.ensures
+returns c = ap₂ (λ x y. x % y) (wraps _ c.ranges.u.fits) c.power.ensures

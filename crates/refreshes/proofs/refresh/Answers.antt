@@ -1,44 +1,38 @@
-use mathlib.Core.Path.{◌≡◌, refl, sym, ◌∙◌}
-use native.Mathlib.Omega.{arith}
-use lib.ListN.{length}
-use Rattle.draws.specs.Draws.{bind, done}
+use Rattle.std.proofs.Common.{refl, ap, ◌∙◌, length, arith, rules}
+use Rattle.tape.specs.Tape.{start}
+use Rattle.draws.specs.Draws.{bind, done, run}
 use Rattle.shares.specs.Refresh.{refresh}
 use Rattle.shares.specs.Sharing.{arithmetic}
-use Rattle.checks.specs.Checks.{inside, first_failing, checks}
-use Rattle.checks.proofs.CheckLaws.{Passed, all_passed, inside_out, checked}
-use Rattle.gate.proofs.GadgetLaws.{silent_refused, silent_ran_lem, on_copy, held}
+use Rattle.checks.proofs.CheckLaws.{checked}
+use Rattle.checks.proofs.AdmissionLaws.{Ready, ready}
+use Rattle.gate.proofs.GadgetLaws.{silent_refused, silent_ran_lem, given_copy, held}
 use Rattle.demands.specs.Gadgets.{refresh_gadget}
 use Rattle.refreshes.proofs.refresh.Goals as goal
-use Rattle.refreshes.proofs.refresh.Goals.{After-first_failing-number, Else-number-ne0}
+use Rattle.refreshes.proofs.refresh.Goals.{In-Ok}
 
-number : (c : After-first_failing-number) →
-    let a = c.args in
-    c.first_failing-number.result ≡ first_failing (checks a.shares.now (length a.out.now) (inside 2 4294967295 a.modulus) a.modulus)
-number c = checked _ _ c.first_failing-number.ensures c.inside.ensures (λ t. refl)
-
-good : (c : Else-number-ne0) →
-    let a = c.args in
-    Passed a.shares.now (length a.out.now) (inside 2 4294967295 a.modulus) a.modulus
-good c = all_passed _ _ _ _ (sym (number (goal.at.Else-number-ne0 c).After-first_failing-number) ∙ c.if-number-ne0.false)
-
-pub returns-then-number-ne0 : goal.returns-then-number-ne0
-unfolding refresh_gadget
-returns-then-number-ne0 c = silent_refused _ _ _ done _ _ _ (number (goal.at.returns-then-number-ne0 c).After-first_failing-number) c.if-number-ne0.true (c.refused.ensures _)
+good : (c : In-Ok) → let a = c.args in Ready a.shares.now (length a.out.now) 2 4294967295 a.modulus a.modulus c.in-Ok.m
+good c = ready _ c.inside.ensures.found c.inside.ensures.same c.in-Ok.ensures
 
 pub copy_in-requires : goal.copy_in-requires
-copy_in-requires c = (good c).ready.most
+copy_in-requires c = (good c).checked.most
 
-pub refresh-s-requires : goal.refresh-s-requires
-refresh-s-requires c =
-    let p = good (goal.at.refresh-s-requires c).Else-number-ne0 in
-    held p.ready (inside_out 2 4294967295 _ p.range).0 c.copy_in.ensures
+pub refresh-fresh-requires : goal.refresh-fresh-requires
+refresh-fresh-requires c =
+    let g = good (goal.at.refresh-fresh-requires c).In-Ok in
+    (search rules, (search rules, rw g.same (held g.checked g.least c.copy_in.ensures)))
 
 pub finish-requires : goal.finish-requires
-finish-requires c = let p = good (goal.at.finish-requires c).Else-number-ne0 in omega (arith, p.ready.fits, p.ready.most)
+finish-requires c = let g = (good (goal.at.finish-requires c).In-Ok).checked in omega (arith, g.fits, g.most)
 
-pub returns : goal.returns
+pub returns-in-Ok : goal.returns-in-Ok
 unfolding refresh_gadget bind
-returns c =
-    let p = good (goal.at.returns c).Else-number-ne0 in
-    silent_ran_lem _ _ _ done _ _ _ (sym (number (goal.at.returns c).After-first_failing-number) ∙ c.if-number-ne0.false) c.finish.ensures
-    (on_copy (refresh (arithmetic _)) _ c.copy_in.ensures p.ready.fits c.start.ensures c.refresh-s.ensures)
+returns-in-Ok c =
+    let g = good (goal.at.returns-in-Ok c).In-Ok in
+    let a = c.args in
+    silent_ran_lem _ _ _ done _ _ _ _ g.passes g.checked.fits c.finish.ensures
+    (given_copy (refresh (arithmetic _)) _ c.copy_in.ensures c.start.ensures _ _ c.refresh-fresh.ensures
+    ∙ ap (λ m. run (refresh (arithmetic m) a.shares.now) a.tape.now start) g.same)
+
+pub returns-in-Err : goal.returns-in-Err
+unfolding refresh_gadget
+returns-in-Err c = silent_refused _ _ _ done _ _ _ _ (checked _ _ c.in-Err.ensures c.inside.ensures.found (λ t. refl)) (c.from.ensures _)

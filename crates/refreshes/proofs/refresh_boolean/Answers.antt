@@ -1,50 +1,41 @@
-use mathlib.Core.Path.{◌≡◌, sym, ◌∙◌}
-use Prim.Native.Nat.{ℕ, ◌^◌, ◌≤◌}
-use native.Mathlib.Omega.{arith}
-use lib.ListN.{length}
-use lib.Pow.{pow_mono}
-use Rattle.draws.specs.Draws.{bind, done}
+use Rattle.std.proofs.Common.{ap, ◌∙◌, ◌^◌, length, pow_mono, arith, rules}
+use Rattle.tape.specs.Tape.{start}
+use Rattle.draws.specs.Draws.{bind, done, run}
 use Rattle.shares.specs.Refresh.{refresh}
 use Rattle.shares.specs.Sharing.{boolean}
-use Rattle.checks.specs.Checks.{inside, first_failing, checks}
-use Rattle.checks.proofs.CheckLaws.{Passed, all_passed, inside_out, checked_width}
-use Rattle.gate.proofs.GadgetLaws.{silent_refused, silent_ran_lem, on_copy, held}
+use Rattle.checks.proofs.CheckLaws.{checked_width}
+use Rattle.checks.proofs.AdmissionLaws.{Ready, ready_width}
+use Rattle.gate.proofs.GadgetLaws.{silent_refused, silent_ran_lem, given_copy, held}
 use Rattle.demands.specs.Gadgets.{boolean_gadget}
 use Rattle.refreshes.proofs.refresh_boolean.Goals as goal
-use Rattle.refreshes.proofs.refresh_boolean.Goals.{After-first_failing-number, Else-number-ne0}
+use Rattle.refreshes.proofs.refresh_boolean.Goals.{In-Ok}
 
-number : (c : After-first_failing-number) →
-    let a = c.args in
-    c.first_failing-number.result ≡ first_failing (checks a.shares.now (length a.out.now) (inside 1 31 a.width) (2 ^ a.width))
-number c = checked_width _ _ 31 _ (omega arith) c.first_failing-number.ensures c.inside.ensures c.width_bound.ensures
-
-good : (c : Else-number-ne0) →
-    let a = c.args in
-    Passed a.shares.now (length a.out.now) (inside 1 31 a.width) (2 ^ a.width)
-good c = all_passed _ _ _ _ (sym (number (goal.at.Else-number-ne0 c).After-first_failing-number) ∙ c.if-number-ne0.false)
-
-two : (k : ℕ) → 1 ≤ k → 2 ≤ 2 ^ k
-two k h = pow_mono {i = 1} {j = k} h
-
-pub returns-then-number-ne0 : goal.returns-then-number-ne0
-unfolding boolean_gadget
-returns-then-number-ne0 c = silent_refused _ (boolean _) _ done _ _ _ (number (goal.at.returns-then-number-ne0 c).After-first_failing-number) c.if-number-ne0.true (c.refused.ensures _)
+good : (c : In-Ok) → let a = c.args in Ready a.shares.now (length a.out.now) 1 31 a.width (2 ^ a.width) c.in-Ok.k
+good c = ready_width _ (omega arith) c.inside.ensures.found c.inside.ensures.same c.width_bound.ensures c.in-Ok.ensures
 
 pub copy_in-requires : goal.copy_in-requires
-copy_in-requires c = (good c).ready.most
+copy_in-requires c = (good c).checked.most
 
-pub refresh_boolean-s-requires : goal.refresh_boolean-s-requires
-refresh_boolean-s-requires c =
-    let p = good (goal.at.refresh_boolean-s-requires c).Else-number-ne0 in
-    let (low, high) = inside_out 1 31 _ p.range in
-    (high, held p.ready (two _ low) c.copy_in.ensures)
+pub invariant_of-kind : goal.invariant_of-kind
+invariant_of-kind c = let g = good (goal.at.invariant_of-kind c).In-Ok in record { fits = rw g.same g.most }
+
+pub refresh-fresh-requires : goal.refresh-fresh-requires
+refresh-fresh-requires c =
+    let g = good (goal.at.refresh-fresh-requires c).In-Ok in
+    (search rules, (search rules, rw g.same (held g.checked (pow_mono {i = 1} g.least) c.copy_in.ensures)))
 
 pub finish-requires : goal.finish-requires
-finish-requires c = let p = good (goal.at.finish-requires c).Else-number-ne0 in omega (arith, p.ready.fits, p.ready.most)
+finish-requires c = let g = (good (goal.at.finish-requires c).In-Ok).checked in omega (arith, g.fits, g.most)
 
-pub returns : goal.returns
+pub returns-in-Ok : goal.returns-in-Ok
 unfolding boolean_gadget bind
-returns c =
-    let p = good (goal.at.returns c).Else-number-ne0 in
-    silent_ran_lem _ (boolean _) _ done _ _ _ (sym (number (goal.at.returns c).After-first_failing-number) ∙ c.if-number-ne0.false) c.finish.ensures
-    (on_copy (refresh (boolean _)) _ c.copy_in.ensures p.ready.fits c.start.ensures c.refresh_boolean-s.ensures)
+returns-in-Ok c =
+    let g = good (goal.at.returns-in-Ok c).In-Ok in
+    let a = c.args in
+    silent_ran_lem _ (boolean _) _ done _ _ _ _ g.passes g.checked.fits c.finish.ensures
+    (given_copy (refresh (boolean _)) _ c.copy_in.ensures c.start.ensures _ _ c.refresh-fresh.ensures
+    ∙ ap (λ m. run (refresh (boolean m) a.shares.now) a.tape.now start) g.same)
+
+pub returns-in-Err : goal.returns-in-Err
+unfolding boolean_gadget
+returns-in-Err c = silent_refused _ (boolean _) _ done _ _ _ _ (checked_width _ _ 31 _ (omega arith) c.in-Err.ensures c.inside.ensures.found c.width_bound.ensures) (c.from.ensures _)

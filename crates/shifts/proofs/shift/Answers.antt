@@ -1,53 +1,40 @@
-use mathlib.Core.Path.{◌≡◌, refl, sym, subst, ◌∙◌}
-use Prim.Native.Nat.{ℕ, ◌≤◌}
-use native.Mathlib.Omega.{arith}
-use lib.ListN.{length}
+use Rattle.std.proofs.Common.{◌≡◌, refl, ap, ◌∙◌, ◌/◌, ◌^◌, length, arith}
+use Rattle.tape.specs.Tape.{start}
+use Rattle.draws.specs.Draws.{bind, run}
+use Rattle.shares.specs.Refresh.{refresh}
 use Rattle.shares.specs.Sharing.{arithmetic}
 use Rattle.halves.specs.Shift.{shift}
-use Rattle.checks.specs.Checks.{first_failing, checks}
-use Rattle.checks.proofs.CheckLaws.{Passed, all_passed, checked}
-use Rattle.gate.proofs.GadgetLaws.{silent_refused, silent_ran_lem, closed_on_copy, held, held_given}
+use Rattle.checks.proofs.CheckLaws.{Passed, all_passed, checked, alone}
+use Rattle.gate.proofs.GadgetLaws.{silent_refused, silent_ran_lem}
 use Rattle.demands.specs.Gadgets.{shift_range, shift_gadget}
-use Rattle.demands.proofs.RangeLaws.{shift_range_out, whole_power, whole_least}
+use Rattle.demands.proofs.RangeLaws.{shift_range_out, whole_power}
 use Rattle.shifts.proofs.shift.Goals as goal
-use Rattle.shifts.proofs.shift.Goals.{After-first_failing-number, Else-number-ne0}
+use Rattle.shifts.proofs.shift.Goals.{In-Ok}
 
-number : (c : After-first_failing-number) →
-    let a = c.args in
-    c.first_failing-number.result ≡ first_failing (checks a.shares.now (length a.out.now) (shift_range a.modulus a.t) a.modulus)
-number c = checked _ _ c.first_failing-number.ensures c.shift_range.ensures (λ t. refl)
+good : (c : In-Ok) → let a = c.args in Passed a.shares.now (length a.out.now) (shift_range a.modulus a.t) a.modulus
+good c = all_passed _ _ _ _ (checked _ _ c.in-Ok.ensures.passes c.quotient.ensures.found (λ t. refl))
 
-good : (c : Else-number-ne0) →
-    let a = c.args in
-    Passed a.shares.now (length a.out.now) (shift_range a.modulus a.t) a.modulus
-good c = all_passed _ _ _ _ (sym (number (goal.at.Else-number-ne0 c).After-first_failing-number) ∙ c.if-number-ne0.false)
+-- the modulus that the steps are told is the one that is left
+left : (c : In-Ok) → c.in-Ok.m ≡ c.args.modulus / 2 ^ c.args.t
+left c = rw c.in-Ok.ensures.is at c.quotient.ensures.same
 
-pub returns-then-number-ne0 : goal.returns-then-number-ne0
-unfolding shift_gadget
-returns-then-number-ne0 c = silent_refused _ _ _ _ _ _ _ (number (goal.at.returns-then-number-ne0 c).After-first_failing-number) c.if-number-ne0.true (c.refused.ensures _)
-
-pub quotient-m-requires : goal.quotient-m-requires
-quotient-m-requires c = (shift_range_out _ _ (good c).range).1.1
-
-pub copy_in-requires : goal.copy_in-requires
-copy_in-requires c = (good (goal.at.copy_in-requires c).Else-number-ne0).ready.most
-
-pub shift_by-s-requires : goal.shift_by-s-requires
-shift_by-s-requires c = let p = good (goal.at.shift_by-s-requires c).Else-number-ne0 in
-    let (m, (low, high), d, two) = shift_range_out _ _ p.range in
+pub shifted-requires : goal.shifted-requires
+shifted-requires c =
+    let (m, (low, high), d, two) = shift_range_out _ _ (good c).range in
     let e = whole_power _ _ d in
-    rw c.quotient-m.ensures (high, two, rw (← e) (omega arith), rw (← e) (held p.ready (whole_least _ _ d two) c.copy_in.ensures))
-
-pub close-requires : goal.close-requires
-close-requires c = let p = good (goal.at.close-requires c).Else-number-ne0 in
-    held_given p.ready (subst (λ (m : ℕ). 2 ≤ m) (sym c.quotient-m.ensures) (shift_range_out _ _ p.range).3) c.shift_by-s.ensures
+    rw (left c) (high, two, rw (← e) (omega arith), rw (← e) (alone (good c).ready))
 
 pub finish-requires : goal.finish-requires
-finish-requires c = let p = good (goal.at.finish-requires c).Else-number-ne0 in omega (arith, p.ready.fits, p.ready.most)
+finish-requires c = let g = (good (goal.at.finish-requires c).In-Ok).ready in omega (arith, g.fits, g.most)
 
-pub returns : goal.returns
+pub returns-in-Ok : goal.returns-in-Ok
 unfolding shift_gadget
-returns c = let p = good (goal.at.returns c).Else-number-ne0 in
-    rw (← c.quotient-m.ensures)
-    (silent_ran_lem _ _ _ _ _ _ _ (sym (number (goal.at.returns c).After-first_failing-number) ∙ c.if-number-ne0.false) c.finish.ensures
-    (closed_on_copy (shift _ _) (arithmetic _) _ c.copy_in.ensures p.ready.fits c.start.ensures c.shift_by-s.ensures c.close.ensures))
+returns-in-Ok c =
+    let a = c.args in
+    let at = (goal.at.returns-in-Ok c).In-Ok in
+    silent_ran_lem _ _ _ _ _ _ _ _ (checked _ _ c.in-Ok.ensures.passes c.quotient.ensures.found (λ t. refl)) (good at).ready.fits c.finish.ensures
+    (c.shifted.ensures ∙ ap (λ m. run (bind (shift m a.t a.shares.now) (refresh (arithmetic m))) a.tape.now start) (left at))
+
+pub returns-in-Err : goal.returns-in-Err
+unfolding shift_gadget
+returns-in-Err c = silent_refused _ _ _ _ _ _ _ _ (checked _ _ c.in-Err.ensures c.quotient.ensures.found (λ t. refl)) (c.from.ensures _)

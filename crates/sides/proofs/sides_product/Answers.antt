@@ -1,68 +1,53 @@
-use mathlib.Core.Path.{◌≡◌, ap, ◌∙◌}
-use native.Mathlib.Omega.{arith}
-use lib.ListN.{take}
-use Rattle.numbers.specs.Modulo.{q}
-use Rattle.tape.specs.Tape.{ran}
+use Rattle.std.proofs.Common.{◌≡◌, sym, ap, ◌∙◌, ℕ, List, take, arith, rules}
+use Rattle.tape.specs.Tape.{Ran}
 use Rattle.draws.specs.Draws.{run}
-use Rattle.shares.specs.Arrays.{Held, Gave}
 use Rattle.shares.specs.Sharing.{negated}
-use Rattle.shares.proofs.ArraysLaws.{held_of, held_below, given_as, gave, stopped, cut_off}
+use Rattle.shares.proofs.ArraysLaws.{held_of, held_below, gave_as}
 use Rattle.shares.proofs.NegatedLaws.{negated-take, negated_words}
 use Rattle.sizes.specs.Widening.{wide}
 use Rattle.sizes.specs.Sides.{side}
 use Rattle.sizes.proofs.SidesSteps.{left_ended, right_ended, fresh_ended, to_product}
-use borrow.Author.Tests.{not-false}
 use Rattle.sides.proofs.sides_product.Goals as goal
-use Rattle.sides.proofs.sides_product.Goals.{After-negated, After-side-right, Else-not-left}
-
-left : (c : Else-not-left) →
-    let a = c.args in
-    run (side a.bounds (take a.n a.shares)) a.tape.now a.cursor ≡ ran (take a.n c.side-left.result.words) c.side-left.result.cursor
-left c = gave c.side-left.ensures c.if-not-left.false
-
-held_left : (c : Else-not-left) → Held 8 c.args.n q c.side-left.result.words
-held_left c = held_below c.requires.1 (omega arith) (c.side-left.ensures.below (not-false _ c.if-not-left.false))
+use Rattle.sides.proofs.sides_product.Goals.{After-negated, After-side-2}
 
 negative : (c : After-negated) → let a = c.args in c.negated.result ≡ negated (wide a.bounds) a.shares
 negative c = let a = c.args in c.negated.ensures ∙ ap (λ m. negated m a.shares) c.wide.ensures
 
--- of the negated shares
-right : (c : After-side-right) →
+-- the side of the negated shares
+right : (c : After-side-2) (x : Ran (List ℕ)) →
     let a = c.args in
-    Gave a.n q c.side-right.result (run (side a.bounds (negated (wide a.bounds) (take a.n a.shares))) a.tape.now c.side-left.result.cursor)
-right c =
+    run (side a.bounds (take a.n c.negated.result)) a.tape.now c.in_ok-left.left.cursor ≡ x →
+    run (side a.bounds (negated (wide a.bounds) (take a.n a.shares))) a.tape.now c.in_ok-left.left.cursor ≡ x
+right c x e =
     let a = c.args in
-    given_as c.side-right.ensures
-    (ap (λ xs. run (side a.bounds xs) a.tape.now c.side-left.result.cursor) (ap (take a.n) (negative (goal.at.After-side-right c).After-negated) ∙ negated-take (wide a.bounds) a.n a.shares))
+    sym (ap (λ xs. run (side a.bounds xs) a.tape.now c.in_ok-left.left.cursor) (ap (take a.n) (negative (goal.at.After-side-2 c).After-negated) ∙ negated-take (wide a.bounds) a.n a.shares)) ∙ e
 
-pub returns-then-not-left : goal.returns-then-not-left
-returns-then-not-left c =
-    cut_off c.ended.ensures (left_ended c.args.bounds _ _ _ (stopped c.side-left.ensures c.if-not-left.true))
+pub returns-in_err-left : goal.returns-in_err-left
+returns-in_err-left c = rw c.from_residual.ensures (left_ended c.args.bounds _ _ _ c.in_err-left.ensures)
 
 pub negated-requires : goal.negated-requires
-negated-requires c = rw c.wide.ensures c.requires.1.all
+negated-requires c = rw c.wide.ensures c.requires.all
 
-pub side-right-requires : goal.side-right-requires
-side-right-requires c =
-    (c.requires.0, rw (negative c) (held_of c.requires.1 (negated_words (wide c.args.bounds) (omega (arith, c.requires.1.two)) c.requires.1.all)))
+pub side-requires-2 : goal.side-requires-2
+side-requires-2 c =
+    rw (negative (goal.at.side-requires-2 c).After-negated) (held_of c.requires (negated_words (wide c.args.bounds) (omega (arith, c.requires.two)) c.requires.all))
 
-pub returns-then-not-right : goal.returns-then-not-right
-returns-then-not-right c =
-    cut_off c.ended-then-not-right.ensures (right_ended c.args.bounds _ _ _ _ (left (goal.at.returns-then-not-right c).Else-not-left) (stopped (right (goal.at.returns-then-not-right c).After-side-right) c.if-not-right.true))
+pub returns-in_err-right : goal.returns-in_err-right
+returns-in_err-right c =
+    rw c.from_residual-in_err-right.ensures (right_ended c.args.bounds _ _ _ _ c.in_ok-left.ensures.0 (right (goal.at.returns-in_err-right c).After-side-2 _ c.in_err-right.ensures))
 
-pub refresh-fresh-requires : goal.refresh-fresh-requires
-refresh-fresh-requires c = held_left (goal.at.refresh-fresh-requires c).Else-not-left
+pub refresh-requires : goal.refresh-requires
+refresh-requires c = (search rules, (search rules, held_below c.requires (omega arith) c.in_ok-left.ensures.1))
 
-pub returns-then-not-fresh : goal.returns-then-not-fresh
-returns-then-not-fresh c =
-    cut_off c.ended-then-not-fresh.ensures
-    (fresh_ended c.args.bounds _ _ _ _ (left (goal.at.returns-then-not-fresh c).Else-not-left) _ (gave (right (goal.at.returns-then-not-fresh c).After-side-right) c.if-not-right.false) (stopped c.refresh-fresh.ensures c.if-not-fresh.true))
+pub returns-in_err-fresh : goal.returns-in_err-fresh
+returns-in_err-fresh c =
+    rw c.from_residual-in_err-fresh.ensures
+    (fresh_ended c.args.bounds _ _ _ _ c.in_ok-left.ensures.0 _ (right (goal.at.returns-in_err-fresh c).After-side-2 _ c.in_ok-right.ensures.0) c.in_err-fresh.ensures)
 
 pub product-requires : goal.product-requires
-product-requires c =
-    (held_of (held_left (goal.at.product-requires c).Else-not-left) (c.refresh-fresh.ensures.below (not-false _ c.if-not-fresh.false)), c.side-right.ensures.below (not-false _ c.if-not-right.false))
+product-requires c = (held_below c.requires (omega arith) c.in_ok-fresh.ensures.1, c.in_ok-right.ensures.1)
 
 pub returns : goal.returns
 returns c =
-    given_as c.product.ensures
-    (to_product c.args.bounds _ _ _ _ (left (goal.at.returns c).Else-not-left) _ (gave (right (goal.at.returns c).After-side-right) c.if-not-right.false) _ (gave c.refresh-fresh.ensures c.if-not-fresh.false))
+    gave_as _ _ _ c.product.ensures
+    (to_product c.args.bounds _ _ _ _ c.in_ok-left.ensures.0 _ (right (goal.at.returns c).After-side-2 _ c.in_ok-right.ensures.0) _ c.in_ok-fresh.ensures.0)

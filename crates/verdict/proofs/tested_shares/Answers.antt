@@ -1,22 +1,21 @@
-use native.Mathlib.Omega.{arith}
-use Rattle.shares.proofs.ArraysLaws.{held_below, given_as, gave, stopped, cut_off}
+use Rattle.std.proofs.Common.{arith}
+use Rattle.params.proofs.SetLaws.{kind_laws}
+use Rattle.shares.proofs.ArraysLaws.{held_below, gave_as}
 use Rattle.sizes.proofs.WideningSteps.{wide_two}
 use Rattle.sizes.proofs.VerdictSteps.{widen_stops, sides_stop, to_zero_test}
-use borrow.Author.Tests.{not-false}
 use Rattle.verdict.proofs.tested_shares.Goals as goal
 
-pub returns-then-not-widened : goal.returns-then-not-widened
-returns-then-not-widened c = cut_off c.ended.ensures (widen_stops c.args.bounds _ _ _ (stopped c.widen-widened.ensures c.if-not-widened.true))
+pub returns-in_err-widened : goal.returns-in_err-widened
+returns-in_err-widened c = rw c.from_residual.ensures (widen_stops c.args.bounds _ _ _ c.in_err-widened.ensures)
 
-pub sides_product-product-requires : goal.sides_product-product-requires
-sides_product-product-requires c = let (l, a) = c.requires in
-    (l, held_below a (wide_two l) (c.widen-widened.ensures.below (not-false _ c.if-not-widened.false)))
+pub sides_product-requires : goal.sides_product-requires
+sides_product-requires c = held_below c.requires (wide_two (kind_laws c.args.bounds)) c.in_ok-widened.ensures.1
 
-pub returns-then-not-product : goal.returns-then-not-product
-returns-then-not-product c = cut_off c.ended-then-not-product.ensures (sides_stop c.args.bounds _ _ _ _ (gave c.widen-widened.ensures c.if-not-widened.false) (stopped c.sides_product-product.ensures c.if-not-product.true))
+pub returns-in_err-product : goal.returns-in_err-product
+returns-in_err-product c = rw c.from_residual-in_err-product.ensures (sides_stop c.args.bounds _ _ _ _ c.in_ok-widened.ensures.0 c.in_err-product.ensures)
 
 pub zero_test-requires : goal.zero_test-requires
-zero_test-requires c = held_below c.requires.1 (omega arith) (c.sides_product-product.ensures.below (not-false _ c.if-not-product.false))
+zero_test-requires c = held_below c.requires (omega arith) c.in_ok-product.ensures.1
 
 pub returns : goal.returns
-returns c = given_as c.zero_test.ensures (to_zero_test c.args.bounds _ _ _ _ (gave c.widen-widened.ensures c.if-not-widened.false) _ (gave c.sides_product-product.ensures c.if-not-product.false))
+returns c = gave_as _ _ _ c.zero_test.ensures (to_zero_test c.args.bounds _ _ _ _ c.in_ok-widened.ensures.0 _ c.in_ok-product.ensures.0)

@@ -1,56 +1,39 @@
-use mathlib.Core.Path.{◌≡◌, refl, sym, ap, ◌∙◌}
-use mathlib.Core.Bool.{true}
-use lib.ListN.{length}
+use Rattle.std.proofs.Common.{◌≡◌, sym, ap, ◌∙◌, length, arith}
 use Rattle.numbers.specs.Modulo.{q}
-use Rattle.params.specs.declared.Params.{Params}
-use Rattle.params.specs.Sets.{known, of_kind}
-use Rattle.params.proofs.SetLaws.{kind_laws}
+use Rattle.params.specs.Sets.{kind_of}
+use Rattle.params.proofs.SetLaws.{bounds_are}
 use Rattle.tape.specs.Tape.{start}
 use Rattle.draws.specs.Draws.{bind, run}
 use Rattle.shares.specs.Refresh.{refresh}
-use Rattle.checks.specs.Checks.{first_failing, checks}
-use Rattle.checks.proofs.CheckLaws.{both_left, Passed, all_passed, checked}
-use Rattle.checks.proofs.AdmitLaws.{not_admitted, Good, good}
+use Rattle.checks.proofs.CheckLaws.{Passed, all_passed, alone}
 use Rattle.gate.proofs.GadgetLaws.{silent_refused, silent_ran_lem}
 use Rattle.sizes.specs.Widening.{widened, widen}
 use Rattle.demands.specs.Gadgets.{kind_range, widen_gadget}
+use Rattle.demands.proofs.Answers.{kind_checked}
 use Rattle.widens.proofs.widen.Goals as goal
-use Rattle.widens.proofs.widen.Goals.{After-first_failing-number, In-Set}
+use Rattle.widens.proofs.widen.Goals.{In-Ok}
 
-number : (c : After-first_failing-number) →
-    let a = c.args in
-    c.first_failing-number.result ≡ first_failing (checks a.shares.now (length a.out.now) (kind_range a.set a.kind) q)
-number c = checked _ _ c.first_failing-number.ensures c.kind_range.ensures (λ t. refl)
+good : (c : In-Ok) → let a = c.args in Passed a.shares.now (length a.out.now) (kind_range a.set a.kind) q
+good c = all_passed _ _ _ _ (kind_checked _ _ _ _ _ c.bounds.ensures c.in-Ok.ensures.passes)
 
--- what is known where none did
-passed : (c : After-first_failing-number) → c.first_failing-number.result ≡ 0 →
-    let a = c.args in
-    Passed a.shares.now (length a.out.now) (kind_range a.set a.kind) q
-passed c e = all_passed _ _ _ _ (sym (number c) ∙ e)
+-- the bounds are those of the set and the kind
+found : (c : In-Ok) → c.in-Ok.bounds ≡ kind_of c.args.set c.args.kind
+found c = (bounds_are _ _ (sym c.bounds.ensures ∙ c.in-Ok.ensures.is)).1
 
-set_known : (c : After-first_failing-number) → c.first_failing-number.result ≡ 0 → known c.args.set ≡ true
-unfolding kind_range
-set_known c e = both_left _ _ (passed c e).range
+pub widened-requires : goal.widened-requires
+widened-requires c = alone (good c).ready
 
-admitted : (c : In-Set) →
-    Good c.first_failing-number.result c.args.set c.in-Set.p
-admitted c = good _ _ (set_known (goal.at.In-Set c).After-first_failing-number) _ c.admit.ensures c.in-Set.is
+pub finish-requires : goal.finish-requires
+finish-requires c = let g = (good (goal.at.finish-requires c).In-Ok).ready in omega (arith, g.fits, g.most)
 
-pub admit-requires : goal.admit-requires
-admit-requires c = λ e. set_known c e
-
-pub widen_by-requires : goal.widen_by-requires
-widen_by-requires c = let g = admitted (goal.at.widen_by-requires c).In-Set in
-    (rw c.of_kind.ensures (kind_laws g.laws _), (passed (goal.at.widen_by-requires c).After-first_failing-number (sym g.passes)).ready)
-
-pub returns-in-Refused : goal.returns-in-Refused
+pub returns-in-Ok : goal.returns-in-Ok
 unfolding widen_gadget
-returns-in-Refused c = let (e, h) = not_admitted _ _ (set_known (goal.at.returns-in-Refused c).After-first_failing-number) _ c.admit.ensures c.in-Refused.is in
-    silent_refused _ _ _ _ _ _ _ (e ∙ number (goal.at.returns-in-Refused c).After-first_failing-number) h (c.refused.ensures _)
+returns-in-Ok c =
+    let a = c.args in
+    let at = (goal.at.returns-in-Ok c).In-Ok in
+    silent_ran_lem _ _ _ _ _ _ _ _ (kind_checked _ _ _ _ _ c.bounds.ensures c.in-Ok.ensures.passes) (good at).ready.fits c.finish.ensures
+    (c.widened.ensures ∙ ap (λ k. run (bind (widen k a.shares.now) (refresh (widened k))) a.tape.now start) (found at))
 
-pub returns-in-Set : goal.returns-in-Set
+pub returns-in-Err : goal.returns-in-Err
 unfolding widen_gadget
-returns-in-Set c = let a = c.args in
-    let g = admitted (goal.at.returns-in-Set c).In-Set in
-    silent_ran_lem _ _ _ _ _ _ _ (sym (g.passes ∙ number (goal.at.returns-in-Set c).After-first_failing-number)) c.widen_by.ensures
-    (ap (λ k. run (bind (widen k a.shares.now) (refresh (widened k))) a.tape.now start) (c.of_kind.ensures ∙ ap (λ (p : Params). of_kind p a.kind) g.constants))
+returns-in-Err c = silent_refused _ _ _ _ _ _ _ _ (kind_checked _ _ _ _ _ c.bounds.ensures c.in-Err.ensures) (c.from.ensures _)

@@ -1,5 +1,4 @@
-use borrow.Author.Rules.{rules}
-use native.Mathlib.Omega.{arith}
+use Rattle.std.proofs.Common.{rules, arith}
 use Rattle.numbers.proofs.WordsLaws.{words_at, words_same}
 use Rattle.halves.proofs.ParityLaws.{signing_start, signing_more, signing_all}
 use Rattle.halving.proofs.parity.join.Goals as goal

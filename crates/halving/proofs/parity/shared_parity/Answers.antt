@@ -1,26 +1,31 @@
-use mathlib.Core.Path.{refl}
-use native.Mathlib.Omega.{arith}
-use Rattle.shares.proofs.ArraysLaws.{gave, stopped, whole, cut_off}
+use Rattle.std.proofs.Common.{◌≡◌, sym, ◌∙◌, take, ◌+◌, ◌-◌, ◌<◌, get_or, drop, length-take, arith, rules}
+use Rattle.std.proofs.lemmas.List.{get_or-take}
+use Rattle.std.proofs.lemmas.Grind.{get_or_after_one}
 use Rattle.shares.proofs.LoopLaws.{looping_done}
 use Rattle.halves.proofs.ParityLaws.{joining_start, joining_ended, joining_more}
-use borrow.Author.Tests.{not-false}
 use Rattle.halving.proofs.parity.shared_parity.Goals as goal
 
-pub loop-i-init : goal.loop-i-init
-loop-i-init c = joining_start _ _ _ _ _ _ c.requires
+pub loop-share-init : goal.loop-share-init
+loop-share-init c = joining_start _ _ _ _ _ _ c.requires
 
-pub refresh-s-requires : goal.refresh-s-requires
-refresh-s-requires c = c.loop-i.invariant.left.held
+pub close-requires : goal.close-requires
+close-requires c = (search rules, c.loop-share.invariant.left.held)
 
-pub returns-then-not-s : goal.returns-then-not-s
-returns-then-not-s c = cut_off c.ended.ensures (joining_ended c.loop-i.invariant c.loop-i-test.true (stopped c.refresh-s.ensures c.if-not-s.true))
+pub returns-in_err-fresh : goal.returns-in_err-fresh
+returns-in_err-fresh c = rw c.from_residual.ensures (joining_ended c.loop-share.invariant (search rules) c.in_err-fresh.ensures)
 
-pub join-words-requires : goal.join-words-requires
-join-words-requires c = let h = c.loop-i.invariant.left.held in
-    (c.refresh-s.ensures.below (not-false _ c.if-not-s.false), h.most, h.two, omega arith)
+pub join-requires : goal.join-requires
+join-requires c = let h = c.loop-share.invariant.left.held in (c.in_ok-fresh.ensures.1, h.most, h.two, omega arith)
 
-pub loop-i-preserved : goal.loop-i-preserved
-loop-i-preserved c = joining_more c.loop-i.invariant c.loop-i-test.true _ (gave c.refresh-s.ensures c.if-not-s.false) c.join-words.ensures
+pub loop-share-preserved : goal.loop-share-preserved
+loop-share-preserved c =
+    let i = c.loop-share.share-index in
+    let last = c.args.n - 1 in
+    let later = drop 1 c.args.shares in
+    let h : i < last = omega (arith, c.loop-share-test.true, length-take last later) in
+    let next : i + 1 ≡ 1 + i = omega arith in
+    let at : get_or c.args.shares (i + 1) 0 ≡ get_or (take last later) i 0 = rw next (sym (get_or-take last later i 0 h ∙ get_or_after_one c.args.shares i 0)) in
+    joining_more c.loop-share.invariant (search rules) _ c.in_ok-fresh.ensures.0 (rw at c.join.ensures)
 
 pub returns : goal.returns
-returns c = let l = c.loop-i.invariant in whole refl l.left.held.all (looping_done l.left c.loop-i-test.false)
+returns c = let l = c.loop-share.invariant.left in (looping_done l (search rules), l.held.all)

@@ -13,4 +13,4 @@ halvings-requires c =
     (omega arith, omega (arith, e), subst (λ (M : ℕ). Held 8 c.args.n M c.args.shares) (sym e) c.requires.2)
 
 pub returns : goal.returns
-returns c = given_bits _ _ _ c.args.k c.requires.0 c.halvings.ensures
+returns c = given_bits _ _ _ _ _ c.args.k c.requires.0 c.halvings.ensures
