@@ -1,7 +1,7 @@
 // What Decompose and the verdict answer on shares of a residue.
 #![tactic(auto)]
 
-ghost use Rattle.std.specs.Prelude.{◌<◌, ◌≤◌};
+ghost use Rattle.std.specs.Prelude.{◌<◌, ◌≤◌, slice_index, EachIndex};
 
 use aims::{accepted_below, reach};
 use decomposes::decompose;
@@ -57,7 +57,9 @@ pub fn on_words(residue: u32, n: usize, p: Pair) -> Option<u32>
 }
 
 // The sizes on both sides of the bound, at the reach, and in the middle between.
-pub fn sizes(p: Pair) -> [u32; 4] {
+pub fn sizes(p: Pair) -> [u32; 4]
+    ensures { EachIndex result (λ i. slice_index result i < 600000) }
+{
     let a = accepted_below(p);
     let b = reach(p);
     [a - 1, a, b, (a + b) / 2]

@@ -30,7 +30,7 @@ fn converted(shares: &[u32], tape: &[u32], k: u32) -> Option<Shared>
     ensures { shared (length shares.now) result ≡ run (bind (to_arithmetic k shares.now) (refresh (arithmetic (2 ^ k)))) tape.now start }
 {
     let n = shares.len();
-    let sums = convert::to_arithmetic(copy_in(shares), n, k, Cursor::start(), tape)?;
+    let sums = convert::to_arithmetic(copy_in(shares), n, k, Cursor::start(), tape);
     close(sums, n, Arithmetic { m: power(k) }, tape)
 }
 
@@ -49,7 +49,7 @@ fn switched(shares: &[u32], tape: &[u32], mu: u32) -> Option<Shared>
     ensures { shared (length shares.now) result ≡ run (bind (to_modulus q mu shares.now) (refresh (arithmetic q))) tape.now start }
 {
     let n = shares.len();
-    let sums = to_modulus(copy_in(shares), n, mu, Params::Q, Cursor::start(), tape)?;
+    let sums = to_modulus(copy_in(shares), n, mu, Params::Q, Cursor::start(), tape);
     close(sums, n, Arithmetic { m: Params::Q }, tape)
 }
 

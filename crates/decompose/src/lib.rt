@@ -30,7 +30,7 @@ fn high_shares(
 {
     let x = add_to_first(shares, p.gamma2, Params::Q);
     let t = 23 + alpha(n);
-    let carries = carries_by_q(x, n, p.delta, t, p.delta * power(t), cursor, tape)?;
+    let carries = carries_by_q(x, n, p.delta, t, p.delta * power(t), cursor, tape);
     close(carries, n, Arithmetic { m: p.delta }, tape)
 }
 

@@ -13,9 +13,9 @@ ghost use Rattle.parts.specs.Decompose.{decompose};
 ghost use Rattle.demands.specs.Gadgets.{decompose_gadget};
 
 use checks::{Refusal, checked};
-use copies::{copy_in, copy_out};
+use copies::copy_in;
 use decompose::{high_part, low_shares};
-use gate::Decomposed;
+use gate::{Decomposed, finish};
 use params::Params;
 use shares::{Arithmetic, refresh};
 use tape::Cursor;
@@ -31,14 +31,15 @@ fn decompose_by(shares: &[u32], tape: &[u32], p: Params, out: &mut [u32]) -> Dec
         return Decomposed::from(Refusal::TapeEnded);
     };
     let kind = Arithmetic { m: Params::Q };
-    let Some(low) = refresh(low_shares(words, p, high), n, kind, next, tape) else {
+    let low = refresh(low_shares(words, p, high), n, kind, next, tape);
+    let told = finish(low, out);
+    if told.number != 0 {
         return Decomposed::from(Refusal::TapeEnded);
-    };
-    copy_out(low.words, out);
+    }
     Decomposed {
         number: 0,
         high,
-        used: low.cursor.at,
+        used: told.used,
     }
 }
 

@@ -45,17 +45,19 @@ verdict_unique set kind shares tape r s e h = ap answer (e ∙ sym h)
     answer : Told → Judged
     answer t = record { number = t.number; verdict = get_or t.others 0 0; opened = get_or t.others 1 0; used = t.used }
 
--- (α + 1 + 2ρ)·d² + d + n·d/2 + n² draws a call, for d = n - 1
-pub verdict_call_draws : (bounds : Bounds) (n : ℕ) → 0 < n → length (verdict_plan bounds n) ≡ (alpha n + 1 + 2 * bounds.rho) * ((n - 1) * (n - 1)) + (n - 1) + n * (n - 1) / 2 + n * n
-unfolding verdict_plan front_plan sides_plan widen_plan refresh_plan product_plan
-verdict_call_draws bounds n few =
-    let ρ : ℕ = bounds.rho in
+-- (α + 1 + 2ρ)·d² + d + n·d/2 + n² draws a call, for d = n - 1: of any ρ
+pub plan_draws : (ρ n : ℕ) → 0 < n →
+    length ((shift_plan (2 ^ ρ) (alpha n + 1) n ++ (shift_plan q ρ n ++ (shift_plan q ρ n ++ (refresh_plan (arithmetic q) n ++ product_plan q n)))) ++ scales_plan q n n)
+    ≡ (alpha n + 1 + 2 * ρ) * ((n - 1) * (n - 1)) + (n - 1) + n * (n - 1) / 2 + n * n
+unfolding refresh_plan product_plan
+plan_draws ρ n few =
     let d : ℕ = (n - 1) * (n - 1) in
-    let widened : length (widen_plan bounds n) ≡ (alpha n + 1) * d = shift_draws (2 ^ ρ) (alpha n + 1) n in
+    let sides : List ℕ = shift_plan q ρ n ++ (shift_plan q ρ n ++ (refresh_plan (arithmetic q) n ++ product_plan q n)) in
+    let widened : length (shift_plan (2 ^ ρ) (alpha n + 1) n) ≡ (alpha n + 1) * d = shift_draws (2 ^ ρ) (alpha n + 1) n in
     let side : length (shift_plan q ρ n) ≡ ρ * d = shift_draws q ρ n in
     rw (
-      length-append (front_plan bounds n) (scales_plan q n n),
-      length-append (widen_plan bounds n) (sides_plan bounds n),
+      length-append (shift_plan (2 ^ ρ) (alpha n + 1) n ++ sides) (scales_plan q n n),
+      length-append (shift_plan (2 ^ ρ) (alpha n + 1) n) sides,
       length-append (shift_plan q ρ n) (shift_plan q ρ n ++ (refresh_plan (arithmetic q) n ++ product_plan q n)),
       length-append (shift_plan q ρ n) (refresh_plan (arithmetic q) n ++ product_plan q n),
       length-append (refresh_plan (arithmetic q) n) (product_plan q n),
@@ -66,3 +68,7 @@ verdict_call_draws bounds n few =
       scales_length few q n,
     )
     (omega arith)
+
+pub verdict_call_draws : (bounds : Bounds) (n : ℕ) → 0 < n → length (verdict_plan bounds n) ≡ (alpha n + 1 + 2 * bounds.rho) * ((n - 1) * (n - 1)) + (n - 1) + n * (n - 1) / 2 + n * n
+unfolding verdict_plan front_plan sides_plan widen_plan
+verdict_call_draws bounds n few = plan_draws bounds.rho n few

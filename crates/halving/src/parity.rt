@@ -7,7 +7,7 @@ ghost use Rattle.halves.specs.Halving.{join, shared_parity};
 ghost use Rattle.halves.specs.AtOnce.{signed, joined};
 
 use params::Params;
-use shares::{Arithmetic, Row, Shared, close};
+use shares::{Arithmetic, Row, Shared, refresh};
 use tape::Cursor;
 use words::{add_mod, neg_mod};
 
@@ -60,7 +60,7 @@ pub fn shared_parity(
         cursor,
     };
     for share in &shares[1..n] {
-        let fresh = close(given, n, kind, tape)?;
+        let fresh = refresh(given.words, n, kind, given.cursor, tape)?;
         given = Row {
             words: join(fresh.words, n, *share % 2, modulus),
             cursor: fresh.cursor,

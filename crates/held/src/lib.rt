@@ -78,7 +78,7 @@ fn converted(shares: [u32; Params::MOST], tape: &[u32], k: u32) -> Option<Shared
     requires { (k ≤ 31) × Held 8 2 (2 ^ k) shares }
     ensures { shared 2 result ≡ run (bind (to_arithmetic k (take 2 shares)) (refresh (arithmetic (2 ^ k)))) tape.now start }
 {
-    let sums = to_arithmetic(shares, 2, k, Cursor::start(), tape)?;
+    let sums = to_arithmetic(shares, 2, k, Cursor::start(), tape);
     close(sums, 2, Arithmetic { m: power(k) }, tape)
 }
 

@@ -1,7 +1,7 @@
 // The refresh that closes shares from whose first a number is taken.
 #![tactic(auto)]
 
-ghost use Rattle.std.specs.Prelude.{◌≡◌, ◌<◌, take};
+ghost use Rattle.std.specs.Prelude.{◌≡◌, ◌<◌, take, None, IfSome, MatchOption};
 ghost use Rattle.draws.specs.Draws.{run};
 ghost use Rattle.shares.specs.Sharing.{arithmetic};
 ghost use Rattle.shares.specs.Refresh.{refresh};
@@ -12,9 +12,9 @@ use params::Params;
 use shares::{Row, Shared};
 use words::{add_mod, sub_mod};
 
-// In one pass, as in `shares::close`: the shares are read where the steps before left them, and no array is copied for the one that changes. The first
+// In one pass, as in the refresh of `shares`: the shares are read where the steps before left them, and no array is copied for the one that changes. The first
 // less the offset is ready before the first draw; the last share is another one, since there are at least two.
-pub fn close_less(given: Shared, offset: u32, n: usize, m: u32, tape: &[u32]) -> Option<Shared>
+fn refreshed_less(given: Shared, offset: u32, n: usize, m: u32, tape: &[u32]) -> Option<Shared>
     requires { (offset < m) × Held 8 n m given.words }
     ensures { Gave n m result (run (refresh (arithmetic m) (take_from_first (arithmetic m) offset (take n given.words))) tape.now given.cursor) }
 {
@@ -34,4 +34,18 @@ pub fn close_less(given: Shared, offset: u32, n: usize, m: u32, tape: &[u32]) ->
     }
     words[last] = last_share;
     Some(Row { words, cursor: cur })
+}
+
+// Of what steps gave; where the tape has ended, nothing follows.
+pub fn close_less(
+    given: Option<Shared>,
+    offset: u32,
+    n: usize,
+    m: u32,
+    tape: &[u32],
+) -> Option<Shared>
+    requires { (offset < m) × IfSome given (λ row. Held 8 n m row.words) }
+    ensures { MatchOption given (result ≡ None) (λ row. Gave n m result (run (refresh (arithmetic m) (take_from_first (arithmetic m) offset (take n row.words))) tape.now row.cursor)) }
+{
+    refreshed_less(given?, offset, n, m, tape)
 }

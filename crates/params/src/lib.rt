@@ -126,13 +126,21 @@ impl Params {
     }
 
     #[tactic(auto, unfolding(crate::specs::Sets::of_kind))]
-    fn of_kind(self, kind: Kind) -> Bounds
+    fn by_kind(self, kind: Kind) -> Bounds
         ensures { result ≡ of_kind self (kind_number kind) }
     {
         match kind {
             Kind::Z => self.kind1,
             Kind::R => self.kind2,
         }
+    }
+
+    // The bounds of kind 1, and for any other number those of kind 2.
+    #[tactic(auto, unfolding(crate::specs::Sets::of_kind))]
+    pub fn of_kind(self, kind: u32) -> Bounds
+        ensures { result ≡ of_kind self kind }
+    {
+        self.by_kind(Kind::try_from(kind).unwrap_or(Kind::R))
     }
 
     // The bounds of a kind of a set, where both numbers are in their ranges.
@@ -142,6 +150,6 @@ impl Params {
     {
         let p = Params::of_set(set)?;
         let kind = Kind::try_from(kind).ok()?;
-        Some(p.of_kind(kind))
+        Some(p.by_kind(kind))
     }
 }

@@ -19,7 +19,7 @@ fn write_row(p: Params, n: usize, cursor: Cursor, tape: &[u32], row: &mut [u32])
     requires { (2 ≤ n) × (n ≤ 8) × (length row.old ≡ n) }
     ensures { written_stands_for result row.new ≡ run (coefficient p n) tape.now cursor }
 {
-    let drawn = drawn_mod_q(p, n, cursor, tape)?;
+    let drawn = drawn_mod_q(p, n, cursor, tape);
     let closed = close_less(drawn, p.gamma1 - 1, n, Params::Q, tape)?;
     copy_out(closed.words, row);
     Some(closed.cursor)

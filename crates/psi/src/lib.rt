@@ -62,6 +62,8 @@ fn added_at(i: usize, u: [u32; Params::MOST], z: [u32; Params::MOST], last: usiz
 }
 
 // The results of U and Z, n shares each, added; the last ones are kept apart. What follows them in the arrays comes along.
+// Taken into its caller, which the compiler would not do of itself, since that calls itself: its words would be stored one by one and then read in fours.
+#[inline(always)]
 pub fn added(
     u: [u32; Params::MOST],
     z: [u32; Params::MOST],
@@ -71,5 +73,9 @@ pub fn added(
     requires { (1 ≤ n) × (n ≤ 7) × (k ≤ 31) × Words 8 (2 ^ k) u × Words 8 (2 ^ k) z }
     ensures { Words 8 (2 ^ k) result × (take (n + 1) result ≡ added (2 ^ k) (take n u) (take n z)) }
 {
-    array::from_fn(|i| added_at(i, u, z, n - 1, k))
+    let mut words = u;
+    for (i, word) in words.iter_mut().enumerate() {
+        *word = added_at(i, u, z, n - 1, k);
+    }
+    words
 }

@@ -26,7 +26,7 @@ fn sampled(p: Params, n: usize, tape: &[u32]) -> Option<Shared>
     requires { (2 ≤ n) × (n ≤ 8) }
     ensures { shared n result ≡ run (coefficient p n) tape.now start }
 {
-    let drawn = drawn_mod_q(p, n, Cursor::start(), tape)?;
+    let drawn = drawn_mod_q(p, n, Cursor::start(), tape);
     close_less(drawn, p.gamma1 - 1, n, Params::Q, tape)
 }
 

@@ -1,14 +1,16 @@
 -- Laws of arrays of shares, and of what the code's answers stand for.
-use mathlib.Core.Path.{◌≡◌, sym, ap, subst, ◌∙◌}
+use mathlib.Core.Path.{◌≡◌, refl, sym, ap, subst, ◌∙◌}
 use mathlib.Core.List.{List}
-use Rattle.std.specs.Prelude.{Option, Some, None}
+use Rattle.std.specs.Prelude.{Option, Some, None, IfSome, MatchOption}
 use Prim.Native.Nat.{ℕ, ◌≤◌, ◌<◌}
 use native.Mathlib.Omega.{arith}
 use lib.ListN.{length, get_or, take, set}
 use lib.Seq.{length-take-le, get_or-take, ext_get_or, take-take}
 use Rattle.numbers.specs.Lists.{Words}
 use Rattle.numbers.proofs.WordsLaws.{words_at, words_set}
+use Rattle.tape.specs.declared.Cursor.{Cursor}
 use Rattle.tape.specs.Tape.{Ran}
+use Rattle.draws.specs.Draws.{after, next}
 use Rattle.shares.specs.declared.Row.{Row}
 use Rattle.shares.specs.Arrays.{Held, Copied, shared, Gave}
 
@@ -58,3 +60,15 @@ gave_is n M None g = sym g
 
 pub gave_as : (n M : ℕ) {size : ℕ} (r : Option (Row size)) {x y : Ran (List ℕ)} → Gave n M r x → x ≡ y → Gave n M r y
 gave_as n M r g e = subst (λ z. Gave n M r z) e g
+
+-- so it may be closed, if it is given
+pub given_held : {size n M : ℕ} {xs : List ℕ} (N : ℕ) (s : Option (Row size)) (x : Ran (List ℕ)) → Held size n M xs → 2 ≤ N → Gave n N s x → IfSome s (λ row. Held size n N row.words)
+given_held N (Some row) x h two g = held_below h two g.1
+given_held N None x h two g = tt
+
+-- and what follows it: where the tape has ended, nothing
+pub gave_next : (n M N : ℕ) {size : ℕ} (s r : Option (Row size)) (x : Ran (List ℕ)) (f : List ℕ → Cursor → Ran (List ℕ)) → Gave n M s x →
+    MatchOption s (r ≡ None) (λ row. Gave n N r (f (take n row.words) row.cursor)) → Gave n N r (next x f)
+unfolding next after
+gave_next n M N (Some row) r x f g h = rw g.0 h
+gave_next n M N None r x f g h = rw (g, h) refl

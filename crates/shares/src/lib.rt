@@ -1,4 +1,4 @@
-// Shares in small arrays by value, n beside them: the two kinds of sharing, and the refresh, which closes every gadget.
+// Shares in small arrays by value, n beside them: the two kinds of sharing, and the refresh, which closes a gadget.
 #![tactic(auto)]
 
 mod kinds;

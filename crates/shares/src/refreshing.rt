@@ -1,5 +1,5 @@
 // The refresh of either kind: the one that closes a gadget, and those between steps.
-ghost use Rattle.std.specs.Prelude.{take};
+ghost use Rattle.std.specs.Prelude.{◌≡◌, take, None, IfSome, MatchOption};
 ghost use Rattle.draws.specs.Draws.{run};
 ghost use Rattle.shares.specs.Sharing.{bound};
 ghost use Rattle.shares.specs.Refresh.{refresh};
@@ -10,7 +10,7 @@ use tape::Cursor;
 
 // It reads the shares where the steps left them and writes others at the same places: a copy would have to wait for the single stores before it. The last
 // share stays in a local while the draws go by, so that no turn waits for the store of the one before.
-pub fn close<K: ShareKind, const N: usize>(
+fn refreshed<K: ShareKind, const N: usize>(
     given: Row<N>,
     n: usize,
     kind: K,
@@ -36,6 +36,19 @@ pub fn close<K: ShareKind, const N: usize>(
     Some(Row { words, cursor: cur })
 }
 
+// Of what steps gave; where the tape has ended, nothing follows.
+pub fn close<K: ShareKind, const N: usize>(
+    given: Option<Row<N>>,
+    n: usize,
+    kind: K,
+    tape: &[u32],
+) -> Option<Row<N>>
+    requires { IfSome given (λ row. Held N n (bound (K.kind kind)) row.words) }
+    ensures { MatchOption given.entry (result ≡ None) (λ row. Gave n (bound (K.kind kind)) result (run (refresh (K.kind kind) (take n row.words)) tape.now row.cursor)) }
+{
+    refreshed(given?, n, kind, tape)
+}
+
 // Of shares in hand, as if steps had given them.
 pub fn refresh<K: ShareKind, const N: usize>(
     words: [u32; N],
@@ -47,5 +60,5 @@ pub fn refresh<K: ShareKind, const N: usize>(
     requires { Held N n (bound (K.kind kind)) words }
     ensures { Gave n (bound (K.kind kind)) result (run (refresh (K.kind kind) (take n words.entry)) tape.now cursor) }
 {
-    close(Row { words, cursor }, n, kind, tape)
+    refreshed(Row { words, cursor }, n, kind, tape)
 }

@@ -41,7 +41,7 @@ fn shifted(shares: &[u32], tape: &[u32], m: u32, t: u32) -> Option<Shared>
     ensures { shared (length shares.now) result ≡ run (bind (shift m t shares.now) (refresh (arithmetic m))) tape.now start }
 {
     let n = shares.len();
-    let halved = shift_by(copy_in(shares), n, m, t, Cursor::start(), tape)?;
+    let halved = shift_by(copy_in(shares), n, m, t, Cursor::start(), tape);
     close(halved, n, Arithmetic { m }, tape)
 }
 
@@ -60,7 +60,7 @@ fn in_bits(shares: &[u32], tape: &[u32], k: u32) -> Option<Shared>
     ensures { shared (length shares.now) result ≡ run (bind (to_boolean k shares.now) (refresh (boolean k))) tape.now start }
 {
     let n = shares.len();
-    let bits = shift::to_boolean(copy_in(shares), n, k, Cursor::start(), tape)?;
+    let bits = shift::to_boolean(copy_in(shares), n, k, Cursor::start(), tape);
     close(bits, n, Boolean { k }, tape)
 }
 

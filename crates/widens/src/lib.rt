@@ -27,7 +27,7 @@ fn widened(shares: &[u32], tape: &[u32], bounds: Bounds) -> Option<Shared>
     ensures { shared (length shares.now) result ≡ run (bind (widen bounds shares.now) (refresh (widened bounds))) tape.now start }
 {
     let n = shares.len();
-    let wider = widening::widen(copy_in(shares), n, bounds, Cursor::start(), tape)?;
+    let wider = widening::widen(copy_in(shares), n, bounds, Cursor::start(), tape);
     close(wider, n, Arithmetic { m: wide(bounds) }, tape)
 }
 

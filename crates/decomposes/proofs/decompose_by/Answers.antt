@@ -3,17 +3,18 @@ use Rattle.numbers.specs.Modulo.{q}
 use Rattle.params.proofs.SetLaws.{set_laws}
 use Rattle.tape.specs.Tape.{ran, start}
 use Rattle.draws.specs.Draws.{run}
-use Rattle.shares.specs.Arrays.{Held}
+use Rattle.shares.specs.Arrays.{Held, shared}
 use Rattle.shares.specs.Sharing.{arithmetic}
 use Rattle.shares.specs.Refresh.{refresh}
-use Rattle.shares.proofs.ArraysLaws.{held_of}
-use Rattle.gate.specs.Told.{opened_ran}
+use Rattle.shares.proofs.ArraysLaws.{held_of, gave_is}
+use Rattle.gate.specs.Told.{opened_ran, ran_told}
+use Rattle.gate.specs.Gadget.{closed}
 use Rattle.gate.proofs.GadgetLaws.{held}
-use Rattle.parts.specs.Decompose.{high_part, low_shares}
+use Rattle.parts.specs.Decompose.{high_part, low_shares, decompose}
 use Rattle.parts.proofs.DecomposeSteps.{high_below, low_take, low_words}
-use Rattle.decomposes.proofs.TellLaws.{parts_ended, parts_ran, high_ended, high_ran}
+use Rattle.decomposes.proofs.TellLaws.{parts_ended, told_refused, told_parts, high_ended, high_ran}
 use Rattle.decomposes.proofs.decompose_by.Goals as goal
-use Rattle.decomposes.proofs.decompose_by.Goals.{After-high_part, After-low_shares, In-Some}
+use Rattle.decomposes.proofs.decompose_by.Goals.{After-finish-told, After-high_part, After-low_shares, In-Some}
 
 -- the copied shares
 copied : (c : After-high_part) → Held 8 (length c.args.shares.now) q c.copy_in-words.result
@@ -54,20 +55,28 @@ returns-in_default c =
 pub low_shares-requires : goal.low_shares-requires
 low_shares-requires c = (small (goal.at.low_shares-requires c).In-Some, (copied (goal.at.low_shares-requires c).After-high_part).all)
 
-pub refresh-requires : goal.refresh-requires
-refresh-requires c =
-    let at = goal.at.refresh-requires c in
+pub refresh-low-requires : goal.refresh-low-requires
+refresh-low-requires c =
+    let at = goal.at.refresh-low-requires c in
     (search rules, (search rules, held_of (copied at.After-high_part) (rw c.low_shares.ensures (low_words (set_laws c.args.p) (small at.In-Some) (copied at.After-high_part).all))))
 
-pub returns-in_default-refresh : goal.returns-in_default-refresh
-unfolding opened_ran
-returns-in_default-refresh c =
-    let at = goal.at.returns-in_default-refresh c in
-    c.from-in_default-refresh.ensures _
-    ∙ parts_ended _ _ (high_ran _ _ _ _ (opened at.In-Some) ∙ ap (opened_ran (c.in-Some.high ∷ [])) (sym (of_low at.After-low_shares) ∙ c.in_default-refresh.ensures))
+pub finish-told-requires : goal.finish-told-requires
+finish-told-requires c = let s = c.requires in omega (arith, s.fits, s.most)
+
+-- what is told goes by the low shares and their refresh, of the caller's shares
+told : (c : After-finish-told) →
+    let a = c.args in
+    ran_told 1 (opened_ran (c.in-Some.high ∷ []) (shared (length a.out.now) c.refresh-low.result)) a.out.now ≡ ran_told 1 (run (closed (arithmetic q) (decompose a.p a.shares.now)) a.tape.now start) a.out.now
+told c =
+    let a = c.args in
+    let at = goal.at.After-finish-told c in
+    ap (λ x. ran_told 1 x a.out.now)
+    (ap (opened_ran (c.in-Some.high ∷ [])) (ap (λ m. shared m c.refresh-low.result) c.requires.fits ∙ gave_is _ _ c.refresh-low.result c.refresh-low.ensures ∙ of_low at.After-low_shares)
+    ∙ sym (high_ran _ _ _ _ (opened at.In-Some)))
+
+pub returns-then-told-ne0 : goal.returns-then-told-ne0
+returns-then-told-ne0 c =
+    c.from-then-told-ne0.ensures _ ∙ told_refused _ _ _ _ c.finish-told.ensures (c.in-Some.high ∷ []) c.if-told-ne0.true ∙ told (goal.at.returns-then-told-ne0 c).After-finish-told
 
 pub returns : goal.returns
-returns c =
-    let at = goal.at.returns c in
-    rw (c.copy_out.ensures, c.requires.fits)
-    (parts_ran _ _ _ _ _ (high_ran _ _ _ _ (opened at.In-Some) ∙ ap (opened_ran (c.in-Some.high ∷ [])) (sym (of_low at.After-low_shares) ∙ c.in-Some-refresh.ensures.0)))
+returns c = told_parts _ _ _ _ c.finish-told.ensures c.in-Some.high c.if-told-ne0.false ∙ told (goal.at.returns c).After-finish-told

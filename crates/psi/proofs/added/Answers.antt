@@ -1,12 +1,18 @@
-use Rattle.std.proofs.Common.{◌^◌, ◌-◌, pow_pos, rules, arith}
-use Rattle.numbers.proofs.MadeLaws.{made_so}
-use Rattle.rules.proofs.ListLaws.{Added, added_words, added_take}
+use Rattle.std.proofs.Common.{◌≡◌, ◌≢◌, ◌<◌, length, pow_pos, rules, arith, get_or-set_other, get_or-set_same, below_more}
+use Rattle.rules.proofs.ListLaws.{added_words, added_take}
 use Rattle.psi.proofs.added.Goals as goal
+
+pub loop-i-preserved : goal.loop-i-preserved
+loop-i-preserved c =
+    let i = c.loop-i.i in
+    let short : i < length c.loop-i.word-items = search rules in
+    below_more _ _
+    (λ j h. let ne : j ≢ i = omega arith in rw get_or-set_other (c.loop-i.invariant j h))
+    (rw get_or-set_same c.added_at.ensures)
 
 pub returns : goal.returns
 returns c =
     let (least, most, k, u, z) = c.requires in
-    let a = c.args in
-    let made = c.from_fn.ensures.items in
-    let all = made_so (Added (2 ^ a.k) (a.n - 1) a.u a.z) (λ i y f e. search rules) _ made in
-    (added_words _ _ _ _ _ made.long (pow_pos _) u z all, added_take _ _ _ _ _ made.long all (omega (arith, least)) most u.size)
+    let all = c.loop-i.invariant in
+    let long : length c.loop-i.word-items ≡ 8 = search rules in
+    (added_words _ _ _ _ _ long (pow_pos _) u z (λ j l. all j (search rules)), added_take _ _ _ _ _ long (λ j l. all j (search rules)) (omega (arith, least)) most u.size)

@@ -8,8 +8,8 @@ use Rattle.halving.proofs.parity.shared_parity.Goals as goal
 pub loop-share-init : goal.loop-share-init
 loop-share-init c = joining_start _ _ _ _ _ _ c.requires
 
-pub close-requires : goal.close-requires
-close-requires c = (search rules, c.loop-share.invariant.left.held)
+pub refresh-requires : goal.refresh-requires
+refresh-requires c = (search rules, (search rules, c.loop-share.invariant.left.held))
 
 pub returns-in_err-fresh : goal.returns-in_err-fresh
 returns-in_err-fresh c = rw c.from_residual.ensures (joining_ended c.loop-share.invariant (search rules) c.in_err-fresh.ensures)

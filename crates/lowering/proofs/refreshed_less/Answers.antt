@@ -6,8 +6,8 @@ use Rattle.shares.proofs.ArraysLaws.{held_at}
 use Rattle.shares.proofs.TurnLaws.{writing_words, writing_none, writing_more, remaining_ended}
 use Rattle.first.specs.First.{take_from_first}
 use Rattle.lowering.proofs.LessLaws.{less_first, less_other, less-held, less-start}
-use Rattle.lowering.proofs.close_less.Goals as goal
-use Rattle.lowering.proofs.close_less.Goals.{then-i-eq0, else-i-eq0, Joined-i-eq0}
+use Rattle.lowering.proofs.refreshed_less.Goals as goal
+use Rattle.lowering.proofs.refreshed_less.Goals.{then-i-eq0, else-i-eq0, Joined-i-eq0}
 
 -- what turn i reads
 read : (c : Joined-i-eq0) →

@@ -2,7 +2,7 @@ use Rattle.std.proofs.Common.{take}
 use Rattle.draws.specs.Draws.{run}
 use Rattle.shares.specs.Refresh.{refresh}
 use Rattle.shares.proofs.TurnLaws.{Writing}
-use Rattle.shares.proofs.refreshing.close.Given as goal
+use Rattle.shares.proofs.refreshing.refreshed.Given as goal
 
 abbrev pub invariant-loop-i : goal.invariant-loop-i
 invariant-loop-i g l = let kind = g.K.ShareKind.kind l.kind in

@@ -5,8 +5,8 @@ use Rattle.draws.proofs.DrawnLaws.{draw_below}
 use Rattle.shares.specs.Sharing.{bound}
 use Rattle.shares.proofs.ArraysLaws.{held_at}
 use Rattle.shares.proofs.TurnLaws.{writing_start, writing_words, writing_none, writing_more, remaining_ended}
-use Rattle.shares.proofs.refreshing.close.Goals as goal
-use Rattle.shares.proofs.refreshing.close.Goals.{In-Some}
+use Rattle.shares.proofs.refreshing.refreshed.Goals as goal
+use Rattle.shares.proofs.refreshing.refreshed.Goals.{In-Some}
 
 drawn : (g : _) (c : In-Some g) → ran c.in-Some.r c.in-Some.next ≡ draw_at c.args.tape.now c.loop-i.cur (bound (g.K.ShareKind.kind c.args.kind))
 drawn g c = rw c.bound-bound.ensures at c.in-Some.ensures
