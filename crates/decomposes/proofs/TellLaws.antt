@@ -1,5 +1,5 @@
 -- What Decompose tells, as the code goes through it.
-use mathlib.Core.Path.{◌≡◌, ap, ◌∙◌}
+use mathlib.Core.Path.{◌≡◌, refl, ap, ◌∙◌}
 use mathlib.Core.List.{List, [], ◌∷◌}
 use Prim.Native.Nat.{ℕ}
 use native.Mathlib.Omega.{arith}
@@ -18,10 +18,15 @@ use Rattle.gate.specs.Gadget.{closed}
 use Rattle.gate.proofs.GadgetLaws.{run_opened}
 use Rattle.parts.specs.Decompose.{high_part, low_shares, decompose}
 
--- where the tape has ended before the high part is opened
-pub parts_ended : (x : Ran Outcome) (out : List ℕ) → x ≡ ended → refused 1 TapeEnded out ≡ ran_told 1 x out
-unfolding ran_told
-parts_ended x out e = rw e
+-- where the tape has ended, and where the low shares are given after the high part was opened
+module _ (x : Ran Outcome) (out : List ℕ) where
+  pub parts_ended : x ≡ ended → refused 1 TapeEnded out ≡ ran_told 1 x out
+  unfolding ran_told
+  parts_ended e = rw e
+
+  pub parts_ran : (high : ℕ) (ys : List ℕ) (c : Cursor) → x ≡ opened_ran (high ∷ []) (ran ys c) → parts_stand_for (record { number = 0; high = high; used = c.at }) ys ≡ ran_told 1 x out
+  unfolding ran_told opened_ran parts_stand_for
+  parts_ran high ys c e = rw e
 
 -- and what was told of the low shares, with the numbers that were opened before: where it is a refusal, and where it is not
 module _ (a : Answer) (out left : List ℕ) (x : Ran (List ℕ)) (e : stands_for a left ≡ ran_told 0 (silent_ran x) out) where
@@ -42,7 +47,7 @@ module _ (a : Answer) (out left : List ℕ) (x : Ran (List ℕ)) (e : stands_for
       go (ran xs c) e =
           let used : a.used ≡ c.at = ap (λ t. t.used) e in
           let same : left ≡ xs = ap (λ t. t.out) e in
-          rw (used, same)
+          rw (used, same) (parts_ran (opened_ran (high ∷ []) (ran xs c)) out high xs c refl)
 
 module _ (p : Params) (xs tape : List ℕ) (c : Cursor) where
   -- closed, Decompose is the high part and then the refresh of the low shares

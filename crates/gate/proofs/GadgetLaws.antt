@@ -9,14 +9,14 @@ use borrow.Author.Tests.{eq-eqb, ne_eqb}
 use Rattle.tape.specs.declared.Cursor.{Cursor}
 use Rattle.tape.specs.Tape.{Ran, ended, ran, start}
 use Rattle.draws.specs.Draws.{Draws, done, bind, after, next, run}
-use Rattle.draws.proofs.RunLaws.{bind_assoc, run_bind}
+use Rattle.draws.proofs.RunLaws.{bind_assoc, run_bind, bind_ran, bind_ended}
 use Rattle.shares.specs.Sharing.{Sharing, bound}
 use Rattle.shares.specs.Refresh.{refresh}
 use Rattle.shares.specs.declared.Row.{Row}
 use Rattle.numbers.specs.Lists.{Words}
 use Rattle.std.specs.Prelude.{Option, Some, None, IfSome, MatchOption}
 use Rattle.shares.specs.Arrays.{Held, Copied, shared, Gave}
-use Rattle.shares.proofs.ArraysLaws.{gave_is, gave_as, gave_next}
+use Rattle.shares.proofs.ArraysLaws.{gave_is}
 use Rattle.checks.specs.Checks.{first_failing, checks_of, Checked, checks, leave_out}
 use Rattle.gate.specs.declared.Answer.{Answer}
 use Rattle.checks.specs.declared.Refusal.{Refusal}
@@ -145,9 +145,18 @@ module _ (d : List ℕ → Draws (List ℕ)) {shares words : List ℕ} (tape : L
 
   -- and so did the closing refresh after them
   module _ (output : Sharing) where
-    pub closed_copy : (M N : ℕ) (s r : Option (Row 8)) → Gave (length shares) M s (run (d (take (length shares) words)) tape c) →
+    pub closed_copy : (N : ℕ) (r : Option (Row 8)) {xs : List ℕ} {p : Cursor} → run (d (take (length shares) words)) tape c ≡ ran xs p →
+        Gave (length shares) N r (run (refresh output xs) tape p) → shared (length shares) r ≡ run (bind (d shares) (refresh output)) tape start
+    closed_copy N r g h = gave_is (length shares) N r h ∙ sym (bind_ran (d shares) (refresh output) tape start _ _ (sym on_copy ∙ g))
+
+    pub short_copy : run (d (take (length shares) words)) tape c ≡ ended → ended ≡ run (bind (d shares) (refresh output)) tape start
+    short_copy g = sym (bind_ended (d shares) (refresh output) tape start (sym on_copy ∙ g))
+
+    -- so of what they gave, the tape ended or not
+    pub closed_if_given : (M N : ℕ) (s r : Option (Row 8)) → Gave (length shares) M s (run (d (take (length shares) words)) tape c) →
         MatchOption s (r ≡ None) (λ row. Gave (length shares) N r (run (refresh output (take (length shares) row.words)) tape row.cursor)) → shared (length shares) r ≡ run (bind (d shares) (refresh output)) tape start
-    closed_copy M N s r g h = gave_is (length shares) N r (gave_next (length shares) M N s r _ (λ xs p. run (refresh output xs) tape p) (gave_as (length shares) M s g on_copy) h) ∙ sym (run_bind (d shares) (refresh output) tape start)
+    closed_if_given M N (Some row) r g h = closed_copy N r g.0 h
+    closed_if_given M N None r g h = rw h (short_copy g)
 
 -- as many words as there are shares, where no check failed: the copied shares, below M
 module _ {shares : List ℕ} {room M : ℕ} (c : Checked shares room M) where

@@ -4,7 +4,7 @@ use Rattle.draws.specs.Draws.{bind, run}
 use Rattle.shares.specs.Refresh.{refresh}
 use Rattle.shares.specs.Sharing.{arithmetic}
 use Rattle.rules.specs.ToArithmetic.{to_arithmetic}
-use Rattle.gate.proofs.GadgetLaws.{closed_copy, held, held_if_given}
+use Rattle.gate.proofs.GadgetLaws.{closed_if_given, held, held_if_given}
 use Rattle.conversions.proofs.converted.Goals as goal
 
 pub copy_in-requires : goal.copy_in-requires
@@ -19,5 +19,5 @@ close-requires c = (search rules, rw c.power.ensures (held_if_given c.requires.2
 pub returns : goal.returns
 returns c =
     let a = c.args in
-    closed_copy (to_arithmetic _) _ c.copy_in.ensures c.start.ensures (arithmetic _) _ _ _ _ c.to_arithmetic-sums.ensures c.close.ensures
+    closed_if_given (to_arithmetic _) _ c.copy_in.ensures c.start.ensures (arithmetic _) _ _ _ _ c.to_arithmetic-sums.ensures c.close.ensures
     ∙ ap (λ m. run (bind (to_arithmetic a.k a.shares.now) (refresh (arithmetic m))) a.tape.now start) c.power.ensures

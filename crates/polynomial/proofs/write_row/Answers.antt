@@ -2,13 +2,13 @@ use Rattle.std.proofs.Common.{sym, ap, ◌∙◌, List, ℕ, take, None, Some, a
 use Rattle.params.proofs.SetLaws.{set_laws}
 use Rattle.params.proofs.RoomLaws.{mask_small}
 use Rattle.tape.specs.Tape.{ran}
-use Rattle.masks.proofs.SampleSteps.{drawn_held, closed}
+use Rattle.masks.proofs.SampleSteps.{drawn_if_given, closed}
 use Rattle.polynomial.proofs.write_row.Goals as goal
 
 pub close_less-requires : goal.close_less-requires
 close_less-requires c =
     let p = c.requires in
-    (omega (arith, mask_small (set_laws c.args.p)), drawn_held c.drawn_mod_q-drawn.result _ p.0 p.1 c.drawn_mod_q-drawn.ensures)
+    (omega (arith, mask_small (set_laws c.args.p)), drawn_if_given c.drawn_mod_q-drawn.result _ p.0 p.1 c.drawn_mod_q-drawn.ensures)
 
 pub returns-in_err-closed : goal.returns-in_err-closed
 returns-in_err-closed c =

@@ -5,11 +5,11 @@ use Rattle.tape.specs.declared.Cursor.{Cursor}
 use Rattle.draws.specs.Draws.{run}
 use Rattle.shares.proofs.ArraysLaws.{gave_is}
 use Rattle.masks.specs.Sampling.{coefficient}
-use Rattle.masks.proofs.SampleSteps.{drawn_held, closed}
+use Rattle.masks.proofs.SampleSteps.{drawn_if_given, closed}
 use Rattle.samplers.proofs.sampled.Goals as goal
 
 pub close_less-requires : goal.close_less-requires
-close_less-requires c = let p = c.requires in (omega (arith, mask_small (set_laws c.args.p)), drawn_held c.drawn_mod_q-drawn.result _ p.0 p.1 c.drawn_mod_q-drawn.ensures)
+close_less-requires c = let p = c.requires in (omega (arith, mask_small (set_laws c.args.p)), drawn_if_given c.drawn_mod_q-drawn.result _ p.0 p.1 c.drawn_mod_q-drawn.ensures)
 
 pub returns : goal.returns
 returns c =

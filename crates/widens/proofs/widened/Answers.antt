@@ -4,7 +4,7 @@ use Rattle.tape.specs.Tape.{start}
 use Rattle.draws.specs.Draws.{bind, run}
 use Rattle.shares.specs.Sharing.{arithmetic}
 use Rattle.shares.specs.Refresh.{refresh}
-use Rattle.gate.proofs.GadgetLaws.{closed_copy, held, held_if_given}
+use Rattle.gate.proofs.GadgetLaws.{closed_if_given, held, held_if_given}
 use Rattle.sizes.specs.Widening.{widen}
 use Rattle.sizes.proofs.WideningSteps.{wide_two}
 use Rattle.widens.proofs.widened.Goals as goal
@@ -21,5 +21,5 @@ close-requires c = (search rules, rw c.wide.ensures (held_if_given c.requires _ 
 pub returns : goal.returns
 returns c =
     let a = c.args in
-    closed_copy (widen _) _ c.copy_in.ensures c.start.ensures (arithmetic _) _ _ _ _ c.widen-wider.ensures c.close.ensures
+    closed_if_given (widen _) _ c.copy_in.ensures c.start.ensures (arithmetic _) _ _ _ _ c.widen-wider.ensures c.close.ensures
     ∙ ap (λ m. run (bind (widen a.bounds a.shares.now) (refresh (arithmetic m))) a.tape.now start) c.wide.ensures
